@@ -1,0 +1,18 @@
+-- What follows. In reading order.
+pub mod Cases
+pub mod BelowLaws
+pub mod OrderLaws
+pub mod BitLaws
+pub mod PatternLaws
+pub mod PolicyLaws
+pub mod RoundLaws
+pub mod Isolation
+pub mod SmallPolicy
+pub mod Slots
+pub mod Protocol
+pub mod Promise
+pub mod Trace
+pub mod SmallRuns
+-- for the proofs of code
+pub mod IsolateLaws
+pub mod BestLoop

@@ -1,0 +1,20 @@
+-- `ternary::fix_bit` meets its contract: one byte of each row is stored, and of that byte one bit is new. Assumes nothing.
+use borrow.Author.Needs.{needs}
+use mathlib.Core.Path.{sym}
+use Rattle.ternary.proofs.ByteLaws.{bytes-of, put-merged, put-raised}
+use Rattle.ternary.proofs.fix_bit.Statement.{statement}
+use Rattle.ternary.proofs.fix_bit.Tie as tie
+
+pub fix-bit-spec : {M : Type 1} → statement M
+fix-bit-spec =
+    tie.close
+    (tie.spec
+    (λ c. search needs)
+    (λ c. search needs)
+    (λ c. search needs)
+    (λ c. search needs)
+    (λ c. search needs)
+    (λ c. search needs)
+    (λ c. search needs)
+    (λ c. search needs)
+    (λ c. record { value-put = sym (put-merged _ _ (bytes-of _ (λ i. search needs)) _ (bytes-of _ (λ i. search needs))); mask-put = sym (put-raised _ _ (bytes-of _ (λ i. search needs))) }))
