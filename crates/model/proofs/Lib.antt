@@ -11,7 +11,8 @@ pub mod SmallPolicy
 pub mod Slots
 pub mod Protocol
 pub mod Promise
-pub mod Trace
+pub mod TraceLink
+pub mod Totals
 pub mod SmallRuns
 -- for the proofs of code
 pub mod IsolateLaws

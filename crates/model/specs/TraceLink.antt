@@ -1,0 +1,43 @@
+-- A trace run is one of the sequences of events that demand 3 speaks of. Assumes nothing.
+use mathlib.Core.Path.{_≡_}
+use mathlib.Core.List.{List, _++_}
+use mathlib.Core.Option.{none, some}
+use Prim.Native.Nat.{ℕ, _*_, _≤_}
+use Rattle.model.specs.Policy.{Rule, Accepted}
+use Rattle.model.specs.Records.{Write, reportFor, slotAt}
+use Rattle.model.specs.Ends.{Key, Decisions, byPolicy, firstFor, counted, onMiss, missKeeper, missWrite, writeRefusal, writeReport, reportRefusal}
+use Rattle.model.specs.World.{World, Event, start, run}
+use Rattle.model.specs.Promise.{Kept}
+use Rattle.model.specs.Trace.{Ends, trace}
+
+abbrev pub endsOf : World → Ends
+endsOf a = record { keeper = a .keeper; table = a .table }
+
+-- whatever the two ends hold, the run is one of the sequences of events
+abbrev pub TracePromise : Type 0
+TracePromise = (n : ℕ) (p : Decisions) (keys : List Key) (a : World)
+    → (events : List Event) × (trace n p (endsOf a) keys ≡ endsOf (run n p a events))
+
+-- so ends that grew from cleared ones have grown so after the run too: its events follow those that went before
+abbrev pub GrownByRun : Type 0
+GrownByRun = (n : ℕ) (p : Decisions) (w slots : ℕ) (events : List Event) (e : Ends) (keys : List Key)
+    → e ≡ endsOf (run n p (start w slots) events)
+    → (more : List Event) × (trace n p e keys ≡ endsOf (run n p (start w slots) (events ++ more)))
+
+-- and all that is promised of the two ends is kept after it
+abbrev pub KeptByRun : Type 0
+KeptByRun = (w most : ℕ) (pol : List Rule) → Accepted w most pol → (slots : ℕ) → 1 ≤ slots → slots ≤ 256
+    → (events : List Event) (e : Ends) (keys : List Key) → e ≡ endsOf (run (w * 8) (byPolicy (w * 8) pol) (start w slots) events)
+    → (a : World) × (trace (w * 8) (byPolicy (w * 8) pol) e keys ≡ endsOf a) × Kept (w * 8) (byPolicy (w * 8) pol) a
+
+-- from such ends neither end refuses within the run: not the report of a hit, nor a miss's write, nor that write's report
+pub record NoInnerRefusal (n : ℕ) (p : Decisions) (a : World) (key : Key) : Type 0 where
+  pub hit : (i : ℕ) → firstFor n (a .table) key ≡ some i → reportRefusal (a .keeper) (reportFor i (counted (slotAt (a .table) i))) ≡ none
+  pub write : (x : Write) → missWrite (a .keeper) (onMiss n p (a .keeper) key) ≡ some x → writeRefusal n (a .table) x ≡ none
+  pub answer : (x : Write) → missWrite (a .keeper) (onMiss n p (a .keeper) key) ≡ some x
+      → reportRefusal (missKeeper (a .keeper) (onMiss n p (a .keeper) key)) (writeReport (a .table) x) ≡ none
+
+abbrev pub InnerPromise : Type 0
+InnerPromise = (w most : ℕ) (pol : List Rule) → Accepted w most pol → (slots : ℕ) → 1 ≤ slots → slots ≤ 256
+    → (events : List Event) (key : Key)
+    → NoInnerRefusal (w * 8) (byPolicy (w * 8) pol) (run (w * 8) (byPolicy (w * 8) pol) (start w slots) events) key
