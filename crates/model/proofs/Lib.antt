@@ -9,6 +9,7 @@ pub mod RoundLaws
 pub mod Isolation
 pub mod SmallPolicy
 pub mod Slots
+pub mod Show
 pub mod Protocol
 pub mod Promise
 pub mod TraceLink
