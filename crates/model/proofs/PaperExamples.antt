@@ -1,14 +1,17 @@
 -- The worked examples of the source documents, together, by computation. Assumes nothing.
 use mathlib.Core.Path.{_≡_, refl}
-use mathlib.Core.List.{map, _++_}
+use mathlib.Core.List.{map}
 use Rattle.model.specs.Below.{allBelow, mostBelow, ahead, foremost, insert, listed, keep}
 use Rattle.model.specs.Bits.{digit, bitAt}
 use Rattle.model.specs.Pattern.{exactAt, sameAt, matches, parts, overlap}
 use Rattle.model.specs.Policy.{ruleAt, before, ruleMatches, rulesOverlap, best, dependents}
 use Rattle.model.specs.Isolate.{separates, chosen, rounds, fixedBy}
 use Rattle.model.specs.Small.{row, Case, coverCase}
-use Rattle.model.specs.PaperExamples.{fixCase, topRule, policy003, cases003, policy001, cases001, fields, zeros, toPort, toNetwork, policy002, packetTo, cases002}
+use Rattle.model.specs.PaperExamples.{fixCase, topRule, policy003, cases003}
+use Rattle.model.specs.PaperExamples.{policy001, cases001, fields, zeros, toPort, toNetwork, policy002, packetTo, cases002, paperCases}
 
-pub paper-examples : map (λ (c : Case). c .computed) (cases003 ++ cases001 ++ cases002) ≡ map (λ (c : Case). c .expected) (cases003 ++ cases001 ++ cases002)
-unfolding allBelow mostBelow ahead foremost insert listed keep digit bitAt exactAt sameAt matches parts overlap ruleAt before ruleMatches rulesOverlap best dependents separates chosen rounds fixedBy row coverCase fixCase topRule policy003 cases003 policy001 cases001 fields zeros toPort toNetwork policy002 packetTo cases002
+pub paper-examples : map (λ (c : Case). c .computed) paperCases ≡ map (λ (c : Case). c .expected) paperCases
+unfolding allBelow mostBelow ahead foremost insert listed keep digit bitAt exactAt sameAt matches parts overlap ruleAt before
+    ruleMatches rulesOverlap best dependents separates chosen rounds fixedBy row coverCase fixCase topRule policy003 cases003 policy001
+    cases001 fields zeros toPort toNetwork policy002 packetTo cases002 paperCases
 paper-examples = refl

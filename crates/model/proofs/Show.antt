@@ -6,7 +6,7 @@ use Prim.Native.Nat.{ℕ}
 use Rattle.model.specs.Policy.{Rule, best}
 use Rattle.model.specs.Records.{Slot}
 use Rattle.model.specs.Ends.{Key, firstFor}
-use Rattle.model.specs.Show.{Shown, slotShown, ruleShown, nothingShown, shownBy, shown, ShownFor}
+use Rattle.model.specs.Show.{slotShown, ruleShown, nothingShown, shownBy, shown, ShownFor}
 use Rattle.model.proofs.Slots.{first-iff, first-none-iff}
 
 by-slot : (f b : Option ℕ) (i : ℕ) → shownBy f b ≡ slotShown i → f ≡ some i

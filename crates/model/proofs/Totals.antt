@@ -14,7 +14,8 @@ use Rattle.model.specs.Below.{allBelow}
 use Rattle.model.specs.Records.{Slot, Outcome, Totals, slotAt}
 use Rattle.model.specs.Ends.{Key, Decisions, Miss, noRule, again, place, usedUp, isEmpty, firstFor, onMiss}
 use Rattle.model.specs.Trace.{Ends, onePacket, trace, missOutcome, packetOutcome, oneOutcome, outcomes}
-use Rattle.model.specs.Totals.{isHit, isMiss, isNoRule, isEviction, countOf, totalsAfter, clearedTotals, totalsOver, TotalsLaw, CutLaw, BalanceLaw}
+use Rattle.model.specs.Totals.{isHit, isMiss, isNoRule, isEviction, countOf, totalsAfter, clearedTotals, totalsOver, TotalsLaw}
+use Rattle.model.specs.Totals.{CutLaw, BalanceLaw}
 use Rattle.model.proofs.Cases.{by-cases, cond-elim}
 use Rattle.model.proofs.BelowLaws.{all-at}
 
@@ -83,15 +84,16 @@ count-cons : (f : ℕ → Bool) (o : Outcome) (os : List Outcome) → countOf f 
 unfolding countOf
 count-cons f o os = by-cases (f (o .outcome)) (λ e. rw e (omega arith)) (λ e. rw e (omega arith))
 
-all-kinds : (n : ℕ) (p : Decisions) (keys : List Key) (e : Ends)
-    → length (outcomes n p e keys) ≡ countOf isHit (outcomes n p e keys) + countOf isMiss (outcomes n p e keys) + countOf isNoRule (outcomes n p e keys)
+all-kinds : (n : ℕ) (p : Decisions) (keys : List Key) (e : Ends) → length (outcomes n p e keys)
+    ≡ countOf isHit (outcomes n p e keys) + countOf isMiss (outcomes n p e keys) + countOf isNoRule (outcomes n p e keys)
 unfolding outcomes
 all-kinds n p [] e = unfold countOf in refl
 all-kinds n p (key ∷ keys) e =
     let o = oneOutcome n p e key in
     let os = outcomes n p (onePacket n p e key) keys in
     let small : o .outcome ≤ 5 = unfold oneOutcome in (known n p (e .keeper) (e .table) key (firstFor n (e .table) key)) in
-    omega (arith, all-kinds n p keys (onePacket n p e key), one-kind (o .outcome) small, count-cons isHit o os, count-cons isMiss o os, count-cons isNoRule o os)
+    let rest = all-kinds n p keys (onePacket n p e key) in
+    omega (arith, rest, one-kind (o .outcome) small, count-cons isHit o os, count-cons isMiss o os, count-cons isNoRule o os)
 
 pub balance-law : BalanceLaw
 unfolding totalsAfter

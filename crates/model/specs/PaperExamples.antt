@@ -134,3 +134,8 @@ cases002 =
     ∷ fixCase policy002 (packetTo 100 7 17 0 80) 7 (50 ∷ 88 ∷ 51 ∷ [])
     ∷ fixCase policy002 (packetTo 64 1 17 2 134) 5 (99 ∷ 53 ∷ 54 ∷ [])
     ∷ []
+
+-- ---- all together
+
+unfoldable pub paperCases : List Case
+paperCases = cases003 ++ cases001 ++ cases002

@@ -5,7 +5,8 @@ use mathlib.Core.Option.{none, some}
 use Prim.Native.Nat.{ℕ, _*_, _≤_}
 use Rattle.model.specs.Policy.{Rule, Accepted}
 use Rattle.model.specs.Records.{Write, reportFor, slotAt}
-use Rattle.model.specs.Ends.{Key, Decisions, byPolicy, firstFor, counted, onMiss, missKeeper, missWrite, writeRefusal, writeReport, reportRefusal}
+use Rattle.model.specs.Ends.{Key, Decisions, byPolicy, firstFor, counted, onMiss, missKeeper, missWrite, writeRefusal}
+use Rattle.model.specs.Ends.{writeReport, reportRefusal}
 use Rattle.model.specs.World.{World, Event, start, run}
 use Rattle.model.specs.Promise.{Kept}
 use Rattle.model.specs.Trace.{Ends, trace}
