@@ -31,14 +31,14 @@ KeptByRun = (w most : ℕ) (pol : List Rule) → Accepted w most pol → (slots 
     → (events : List Event) (e : Ends) (keys : List Key) → e ≡ endsOf (run (w * 8) (byPolicy (w * 8) pol) (start w slots) events)
     → (a : World) × (trace (w * 8) (byPolicy (w * 8) pol) e keys ≡ endsOf a) × Kept (w * 8) (byPolicy (w * 8) pol) a
 
--- from such ends neither end refuses within the run: not the report of a hit, nor a miss's write, nor that write's report
-pub record NoInnerRefusal (n : ℕ) (p : Decisions) (a : World) (key : Key) : Type 0 where
-  pub hit : (i : ℕ) → firstFor n (a .table) key ≡ some i → reportRefusal (a .keeper) (reportFor i (counted (slotAt (a .table) i))) ≡ none
-  pub write : (x : Write) → missWrite (a .keeper) (onMiss n p (a .keeper) key) ≡ some x → writeRefusal n (a .table) x ≡ none
-  pub answer : (x : Write) → missWrite (a .keeper) (onMiss n p (a .keeper) key) ≡ some x
-      → reportRefusal (missKeeper (a .keeper) (onMiss n p (a .keeper) key)) (writeReport (a .table) x) ≡ none
+-- from such ends neither end refuses within the run: at no packet the report of a hit, nor a miss's write, nor that write's report
+pub record NoInnerRefusal (n : ℕ) (p : Decisions) (e : Ends) (key : Key) : Type 0 where
+  pub hit : (i : ℕ) → firstFor n (e .table) key ≡ some i → reportRefusal (e .keeper) (reportFor i (counted (slotAt (e .table) i))) ≡ none
+  pub write : (x : Write) → missWrite (e .keeper) (onMiss n p (e .keeper) key) ≡ some x → writeRefusal n (e .table) x ≡ none
+  pub answer : (x : Write) → missWrite (e .keeper) (onMiss n p (e .keeper) key) ≡ some x
+      → reportRefusal (missKeeper (e .keeper) (onMiss n p (e .keeper) key)) (writeReport (e .table) x) ≡ none
 
 abbrev pub InnerPromise : Type 0
 InnerPromise = (w most : ℕ) (pol : List Rule) → Accepted w most pol → (slots : ℕ) → 1 ≤ slots → slots ≤ 256
-    → (events : List Event) (key : Key)
-    → NoInnerRefusal (w * 8) (byPolicy (w * 8) pol) (run (w * 8) (byPolicy (w * 8) pol) (start w slots) events) key
+    → (events : List Event) (e : Ends) → e ≡ endsOf (run (w * 8) (byPolicy (w * 8) pol) (start w slots) events)
+    → (keys : List Key) (key : Key) → NoInnerRefusal (w * 8) (byPolicy (w * 8) pol) (trace (w * 8) (byPolicy (w * 8) pol) e keys) key
