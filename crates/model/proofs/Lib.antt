@@ -14,6 +14,7 @@ pub mod Show
 pub mod Protocol
 pub mod Promise
 pub mod TraceLink
+pub mod InnerRefusals
 pub mod Totals
 pub mod SmallRuns
 -- for the proofs of code

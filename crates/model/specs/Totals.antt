@@ -9,6 +9,7 @@ use Rattle.model.specs.Records.{Outcome, Totals}
 use Rattle.model.specs.Ends.{Key, Decisions}
 use Rattle.model.specs.Trace.{Ends, trace, outcomes}
 
+-- hits (1), misses (2 to 5), no rule (0), evictions (3)
 abbrev pub isHit : ℕ → Bool
 isHit o = eqb o 1
 

@@ -1,14 +1,16 @@
--- A trace run is one of the sequences of events that demand 3 speaks of. Assumes nothing.
+-- A trace run is one of the sequences of events that demand 3 speaks of, and what an end can refuse within it. Assumes nothing.
 use mathlib.Core.Path.{_≡_}
 use mathlib.Core.List.{List, _++_}
-use mathlib.Core.Option.{none, some}
+use mathlib.Core.Logic.{_⊎_}
+use mathlib.Core.Option.{Option, none, some}
 use Prim.Native.Nat.{ℕ, _*_, _≤_}
+use lib.ListN.{length}
 use Rattle.model.specs.Policy.{Rule, Accepted}
-use Rattle.model.specs.Records.{Write, reportFor, slotAt}
-use Rattle.model.specs.Ends.{Key, Decisions, byPolicy, firstFor, counted, onMiss, missKeeper, missWrite, writeRefusal}
-use Rattle.model.specs.Ends.{writeReport, reportRefusal}
+use Rattle.model.specs.Records.{Entry, Write, writeFor, reportFor, slotAt, entryAt}
+use Rattle.model.specs.Ends.{Key, Decisions, byPolicy, firstFor, counted, again, place, onMiss, missKeeper, missWrite}
+use Rattle.model.specs.Ends.{writeRefusal, writeReport, reportRefusal}
 use Rattle.model.specs.World.{World, Event, start, run}
-use Rattle.model.specs.Promise.{Kept}
+use Rattle.model.specs.Promise.{Kept, Sound}
 use Rattle.model.specs.Trace.{Ends, trace}
 
 abbrev pub endsOf : World → Ends
@@ -42,3 +44,22 @@ abbrev pub InnerPromise : Type 0
 InnerPromise = (w most : ℕ) (pol : List Rule) → Accepted w most pol → (slots : ℕ) → 1 ≤ slots → slots ≤ 256
     → (events : List Event) (e : Ends) → e ≡ endsOf (run (w * 8) (byPolicy (w * 8) pol) (start w slots) events)
     → (keys : List Key) (key : Key) → NoInnerRefusal (w * 8) (byPolicy (w * 8) pol) (trace (w * 8) (byPolicy (w * 8) pol) e keys) key
+
+-- ---- whatever the two ends hold, with as many slots each
+
+-- no refusal, or this one
+abbrev pub NoneBut : ℕ → Option ℕ → Type 0
+NoneBut r o = (o ≡ none) ⊎ (o ≡ some r)
+
+-- a new write is taken; a write given again is refused at most for a value bit under a wildcard (3), and a report at most for a sequence
+-- larger than the keeper's (11)
+pub record InnerRefusals (n : ℕ) (p : Decisions) (e : Ends) (key : Key) : Type 0 where
+  pub new : (i : ℕ) (x : Entry) → onMiss n p (e .keeper) key ≡ place i x → writeRefusal n (e .table) (writeFor i x) ≡ none
+  pub resent : (i : ℕ) → onMiss n p (e .keeper) key ≡ again i → NoneBut 3 (writeRefusal n (e .table) (writeFor i (entryAt (e .keeper) i)))
+  pub hit : (i : ℕ) → firstFor n (e .table) key ≡ some i → NoneBut 11 (reportRefusal (e .keeper) (reportFor i (counted (slotAt (e .table) i))))
+  pub answer : (x : Write) → missWrite (e .keeper) (onMiss n p (e .keeper) key) ≡ some x → writeRefusal n (e .table) x ≡ none
+      → NoneBut 11 (reportRefusal (missKeeper (e .keeper) (onMiss n p (e .keeper) key)) (writeReport (e .table) x))
+
+abbrev pub InnerRefusalLaw : Type 0
+InnerRefusalLaw = (n : ℕ) (p : Decisions) → Sound n p → (e : Ends) → length (e .keeper) ≡ length (e .table) → 1 ≤ length (e .table)
+    → (key : Key) → InnerRefusals n p e key
