@@ -13,6 +13,7 @@ use Rattle.model.specs.World.{World, Event, start, run}
 use Rattle.model.specs.Promise.{Kept, Sound}
 use Rattle.model.specs.Trace.{Ends, trace}
 
+-- the two ends of a world
 abbrev pub endsOf : World → Ends
 endsOf a = record { keeper = a .keeper; table = a .table }
 
