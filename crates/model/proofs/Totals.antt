@@ -2,7 +2,7 @@
 -- Assumes nothing.
 use mathlib.Core.Path.{_≡_, refl, sym, _∙_, ap}
 use mathlib.Core.Bool.{Bool, cond}
-use mathlib.Core.List.{List, [], _∷_, _++_, flatten}
+use mathlib.Core.List.{List, [], _∷_, _++_, map, flatten}
 use mathlib.Core.Option.{Option, none, some}
 use Prim.Native.Nat.{ℕ, _+_, _≤_}
 use native.Mathlib.Nat.{add-assoc, zero-add, add-zero}
@@ -15,7 +15,7 @@ use Rattle.model.specs.Records.{Slot, Outcome, Totals, slotAt}
 use Rattle.model.specs.Ends.{Key, Decisions, Miss, noRule, again, place, usedUp, isEmpty, firstFor, onMiss}
 use Rattle.model.specs.Trace.{Ends, onePacket, trace, missOutcome, packetOutcome, oneOutcome, outcomes}
 use Rattle.model.specs.Totals.{isHit, isMiss, isNoRule, isEviction, countOf, totalsAfter, clearedTotals, totalsOver, TotalsLaw}
-use Rattle.model.specs.Totals.{CutLaw, BalanceLaw}
+use Rattle.model.specs.Totals.{CutLaw, Balanced, BalanceLaw, Run, outcomesOf, AllBalanced}
 use Rattle.model.proofs.Cases.{by-cases, cond-elim}
 use Rattle.model.proofs.BelowLaws.{all-at}
 
@@ -98,3 +98,12 @@ all-kinds n p (key ∷ keys) e =
 pub balance-law : BalanceLaw
 unfolding totalsAfter
 balance-law n p e keys t h = omega (arith, all-kinds n p keys e)
+
+balanced-over : (t : Totals) → Balanced t → (runs : List Run) → Balanced (totalsOver t (map outcomesOf runs))
+unfolding totalsOver
+balanced-over t h [] = h
+balanced-over t h (r ∷ runs) =
+    balanced-over (totalsAfter t (outcomesOf r)) (balance-law (r .positions) (r .decisions) (r .ends) (r .keys) t h) runs
+
+pub all-balanced : AllBalanced
+all-balanced runs = balanced-over clearedTotals refl runs

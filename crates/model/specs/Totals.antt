@@ -1,7 +1,7 @@
 -- The totals that runs advance, and what they come to. Assumes nothing.
 use mathlib.Core.Path.{_≡_}
 use mathlib.Core.Bool.{Bool, cond, _&&_}
-use mathlib.Core.List.{List, [], _∷_, _++_, flatten}
+use mathlib.Core.List.{List, [], _∷_, _++_, map, flatten}
 use Prim.Native.Nat.{ℕ, suc, _+_}
 use lib.Dec.{eqb, leb}
 use lib.ListN.{length}
@@ -67,6 +67,20 @@ Balanced t = t .packets ≡ t .hits + t .misses + t .noRule
 abbrev pub BalanceLaw : Type 0
 BalanceLaw = (n : ℕ) (p : Decisions) (e : Ends) (keys : List Key) (t : Totals)
     → Balanced t → Balanced (totalsAfter t (outcomes n p e keys))
+
+-- a run: whatever the policy, the ends and the keys
+pub record Run : Type 0 where
+  pub positions : ℕ
+  pub decisions : Decisions
+  pub ends : Ends
+  pub keys : List Key
+
+abbrev pub outcomesOf : Run → List Outcome
+outcomesOf r = outcomes (r .positions) (r .decisions) (r .ends) (r .keys)
+
+-- so from cleared totals, over all runs
+abbrev pub AllBalanced : Type 0
+AllBalanced = (runs : List Run) → Balanced (totalsOver clearedTotals (map outcomesOf runs))
 
 -- a trace cut in two and run in two calls gives the same ends, outcomes and totals
 pub record Cut (n : ℕ) (p : Decisions) (e : Ends) (t : Totals) (xs ys : List Key) : Type 0 where
