@@ -62,3 +62,8 @@ module _ (c : List ℕ) where
   -- the last two
   pub pair-last : (a : ℕ) {x y : ℕ} → getD c a 0 ≡ x → getD c (a + 1) 0 ≡ y → a + 2 ≡ length c → x ∷ y ∷ [] ≡ drop a c
   pair-last a p q l = rw (← p, ← q, reads-part 1 a c (omega arith)) (take-all 2 (drop a c) (simp length-drop (omega arith)))
+
+  -- the last three
+  pub triple-last : (a : ℕ) {x y z : ℕ} → getD c a 0 ≡ x → getD c (a + 1) 0 ≡ y → getD c (a + 2) 0 ≡ z → a + 3 ≡ length c
+      → x ∷ y ∷ z ∷ [] ≡ drop a c
+  triple-last a p q r l = rw (← p, ← q, ← r, reads-part 2 a c (omega arith)) (take-all 3 (drop a c) (simp length-drop (omega arith)))

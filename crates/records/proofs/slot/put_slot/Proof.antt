@@ -1,0 +1,30 @@
+-- `records::slot::put_slot` meets its contract: the bytes of the slot are copied to its place. Assumes nothing.
+use borrow.Author.Needs.{needs}
+use mathlib.Core.Path.{_≡_, ap, _∙_}
+use native.Mathlib.Omega.{arith}
+use Rattle.records.specs.Structs.{asSlot}
+use Rattle.records.specs.Slots.{putSlot, slots}
+use Rattle.records.proofs.SlotLaws.{slots-put}
+use Rattle.records.proofs.slot.put_slot.Statement.{statement}
+use Rattle.records.proofs.slot.put_slot.Tie as tie
+
+returns : tie.Need-returns
+returns c =
+    let k = c .before .before .before .before .before .before .before in
+    let a = k .args in
+    let e : c .before .before .put-bytes .last .0 ≡ putSlot 13 (a .s .now) (a .i) (asSlot (a .x)) = cc in
+    record {
+      bytes = e;
+      meaning = ap (slots 13) e ∙ slots-put 13 (a .s .now) (a .i) (asSlot (a .x)) (k .pre) (omega arith) (search needs);
+    }
+
+pub put-slot-spec : {M : Type 1} → statement M
+put-slot-spec =
+    tie.close
+    (tie.spec
+    (λ c. search needs)
+    (λ c. search needs)
+    (λ c. search needs)
+    (λ c. search needs)
+    (λ c. search needs)
+    returns)

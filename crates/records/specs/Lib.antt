@@ -1,0 +1,6 @@
+-- The records: where each field stands, what the bytes mean, and the bytes of a meaning.
+pub mod Layout
+pub mod Rules
+pub mod Traces
+pub mod Slots
+pub mod Structs

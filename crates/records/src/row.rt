@@ -1,0 +1,17 @@
+// Rows of KEY_SIZE bytes in a buffer.
+use crate::layout::KEY_SIZE;
+ghost use mathlib.Core.Path.{_≡_};
+ghost use Prim.Native.Nat.{_+_, _≤_};
+ghost use lib.ListN.{length};
+ghost use Rattle.buffers.specs.Parts.{part};
+ghost use Rattle.records.specs.Layout.{keySize};
+
+// The row that begins at `at`.
+pub fn row_at(s: &[u8], at: usize) -> [u8; KEY_SIZE]
+    requires { ⌜ at + keySize ≤ length (now s) ⌝ }
+    ensures { λ r. ⌜ r ≡ part keySize at (now (s .entry)) ⌝ }
+{
+    let mut r = [0; KEY_SIZE];
+    buffers::put_bytes(&mut r, 0, &s[at..at + KEY_SIZE]);
+    r
+}
