@@ -11,7 +11,7 @@ use Rattle.buffers.specs.Parts.{part}
 use Rattle.buffers.proofs.NumberLaws.{be-toBe}
 use Rattle.buffers.proofs.FieldLaws.{part-past, value-there, mask-there, after-rows, part-then, number-then, pair-last}
 use Rattle.buffers.proofs.RecordLaws.{records-count, records-at}
-use Rattle.records.specs.Layout.{rulePriority, ruleAction, ruleSpare, ruleSize}
+use Rattle.records.specs.Layout.{ruleValue, ruleMask, rulePriority, ruleAction, ruleSpare, ruleSize}
 use Rattle.records.specs.Rules.{decodeRule, encodeRule, RuleFits, ruleCount, ruleIn, rules}
 
 -- rules with the same fields are the same
@@ -27,14 +27,14 @@ module _ (w : ℕ) (r : Rule) (f : RuleFits w r) where
   bytes = r .value ++ (r .mask ++ numbers)
 
   after : drop (rulePriority w) bytes ≡ numbers
-  after = after-rows w 0 bytes (r .value) (r .mask) numbers refl (f .value-long) (f .mask-long)
+  after = after-rows w ruleValue bytes (r .value) (r .mask) numbers refl (f .value-long) (f .mask-long)
 
   pub decode-encode-rule : decodeRule w (encodeRule r) ≡ r
   unfolding decodeRule encodeRule
   decode-encode-rule =
       same-rule
-      (value-there w 0 bytes (r .value) (r .mask) numbers refl (f .value-long) (f .mask-long))
-      (mask-there w 0 bytes (r .value) (r .mask) numbers refl (f .value-long) (f .mask-long))
+      (value-there w ruleValue bytes (r .value) (r .mask) numbers refl (f .value-long) (f .mask-long))
+      (mask-there w ruleValue bytes (r .value) (r .mask) numbers refl (f .value-long) (f .mask-long))
       (ap (λ (s : List ℕ). be (take 2 s)) after ∙ be-toBe 2 (r .priority) (f .priority-fits))
       (ap be (part-past bytes (rulePriority w) after 2 2) ∙ be-toBe 2 (r .action) (f .action-fits))
 
@@ -43,8 +43,8 @@ pub encode-decode-rule : (w : ℕ) (c : List ℕ) → length c ≡ ruleSize w �
     → encodeRule (decodeRule w c) ≡ c
 unfolding decodeRule encodeRule
 encode-decode-rule w c l h y z =
-    part-then c w 0
-    (part-then c w (0 + w)
+    part-then c w ruleValue
+    (part-then c w (ruleMask w)
     (number-then c 2 (rulePriority w) h (omega arith)
     (number-then c 2 (ruleAction w) h (omega arith)
     (pair-last c (ruleSpare w) y z (omega arith)))))

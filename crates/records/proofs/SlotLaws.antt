@@ -13,7 +13,7 @@ use Rattle.buffers.proofs.PartLaws.{length-splice}
 use Rattle.buffers.proofs.NumberLaws.{be-toBe}
 use Rattle.buffers.proofs.FieldLaws.{drop-past, part-past, byte-past, value-there, mask-there, after-rows, part-then, number-then, pair-last}
 use Rattle.buffers.proofs.RecordLaws.{records-count, records-at, records-put, records-spell}
-use Rattle.records.specs.Layout.{slotMask, slotAction, slotRule, slotSettled, slotSize}
+use Rattle.records.specs.Layout.{slotSequence, slotHits, slotValue, slotMask, slotAction, slotRule, slotSettled, slotSize}
 use Rattle.records.specs.Slots.{decodeSlot, encodeSlot, SlotFits, slotCount, slotIn, slots, putSlot}
 
 -- slots with the same fields are the same
@@ -31,7 +31,7 @@ module _ (w : ℕ) (x : Slot) (f : SlotFits w x) where
   bytes = toBe 4 (x .sequence) ++ (toBe 4 (x .hits) ++ (x .value ++ (x .mask ++ numbers)))
 
   after : drop (slotAction w) bytes ≡ numbers
-  after = after-rows w 8 bytes (x .value) (x .mask) numbers refl (f .value-long) (f .mask-long)
+  after = after-rows w slotValue bytes (x .value) (x .mask) numbers refl (f .value-long) (f .mask-long)
 
   after-action : drop (slotRule w) bytes ≡ drop 2 numbers
   after-action = drop-past bytes (slotAction w) after 2
@@ -45,8 +45,8 @@ module _ (w : ℕ) (x : Slot) (f : SlotFits w x) where
       same-slot
       (be-toBe 4 (x .sequence) (f .sequence-fits))
       (be-toBe 4 (x .hits) (f .hits-fits))
-      (value-there w 8 bytes (x .value) (x .mask) numbers refl (f .value-long) (f .mask-long))
-      (mask-there w 8 bytes (x .value) (x .mask) numbers refl (f .value-long) (f .mask-long))
+      (value-there w slotValue bytes (x .value) (x .mask) numbers refl (f .value-long) (f .mask-long))
+      (mask-there w slotValue bytes (x .value) (x .mask) numbers refl (f .value-long) (f .mask-long))
       (ap (λ (s : List ℕ). be (take 2 s)) after ∙ be-toBe 2 (x .action) (f .action-fits))
       (ap be (part-past bytes (slotAction w) after 2 2) ∙ be-toBe 2 (x .rule) (f .rule-fits))
       (byte-past bytes (slotRule w) after-action 2)
@@ -60,9 +60,9 @@ length-encode-slot w x f = simp (length-append, f .value-long, f .mask-long) (om
 pub encode-decode-slot : (w : ℕ) (c : List ℕ) → length c ≡ slotSize w → Bytes c → encodeSlot (decodeSlot w c) ≡ c
 unfolding decodeSlot encodeSlot
 encode-decode-slot w c l h =
-    number-then c 4 0 h (omega arith)
-    (number-then c 4 4 h (omega arith)
-    (part-then c w 8
+    number-then c 4 slotSequence h (omega arith)
+    (number-then c 4 slotHits h (omega arith)
+    (part-then c w slotValue
     (part-then c w (slotMask w)
     (number-then c 2 (slotAction w) h (omega arith)
     (number-then c 2 (slotRule w) h (omega arith)

@@ -7,7 +7,7 @@ use lib.ListN.{length, getD}
 use lib.Seq.{take-at}
 use Rattle.buffers.proofs.FieldLaws.{part-then, triple-last}
 use Rattle.buffers.proofs.RecordLaws.{records-count, records-at}
-use Rattle.records.specs.Layout.{traceSpare, traceSize}
+use Rattle.records.specs.Layout.{traceKey, traceSpare, traceSize}
 use Rattle.records.specs.Traces.{decodeTrace, encodeTrace, packetCount, keyIn, keys}
 
 -- what was encoded is decoded
@@ -20,7 +20,7 @@ pub encode-decode-trace : (w : ℕ) (c : List ℕ) → length c ≡ traceSize w
     → getD c (traceSpare w) 0 ≡ 0 → getD c (traceSpare w + 1) 0 ≡ 0 → getD c (traceSpare w + 2) 0 ≡ 0
     → encodeTrace (decodeTrace w c) ≡ c
 unfolding decodeTrace encodeTrace
-encode-decode-trace w c l x y z = part-then c w 0 (triple-last c (traceSpare w) x y z (omega arith))
+encode-decode-trace w c l x y z = part-then c w traceKey (triple-last c (traceSpare w) x y z (omega arith))
 
 pub packet-count : (w : ℕ) (bs : List ℕ) → length (keys w bs) ≡ packetCount w bs
 unfolding keys

@@ -126,6 +126,9 @@ isReport = 2
 abbrev pub outcomeKind : ℕ
 outcomeKind = 0
 
+abbrev pub outcomeZero : ℕ
+outcomeZero = 1
+
 abbrev pub outcomeAction : ℕ
 outcomeAction = 2
 
@@ -137,6 +140,9 @@ outcomeSlot = 6
 
 abbrev pub outcomeEvicted : ℕ
 outcomeEvicted = 8
+
+abbrev pub outcomeSpare : ℕ
+outcomeSpare = 10
 
 abbrev pub outcomeSize : ℕ
 outcomeSize = 12

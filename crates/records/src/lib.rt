@@ -4,3 +4,4 @@ pub mod layout;
 pub mod row;
 pub mod rule;
 pub mod slot;
+pub mod trace;
