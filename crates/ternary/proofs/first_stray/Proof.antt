@@ -1,0 +1,34 @@
+-- `ternary::first_stray` meets its contract: no byte below i has a bit under a wildcard. Assumes nothing.
+use borrow.Author.Needs.{needs}
+use mathlib.Core.Path.{_≡_}
+use mathlib.Core.Bool.{false}
+use Prim.Native.Nat.{_≤_, _-_}
+use lib.ListN.{length}
+use Rattle.model.specs.Pattern.{strayIn}
+use Rattle.model.proofs.BelowLaws.{Passed, passed-none, passed-more}
+use Rattle.ternary.proofs.ByteLaws.{bytes-of}
+use Rattle.ternary.proofs.PatternBytes.{stray-yes, stray-no}
+use Rattle.ternary.proofs.StrayLaws.{stray-found, stray-missed}
+use Rattle.ternary.proofs.first_stray.Statement.{statement}
+use Rattle.ternary.proofs.first_stray.Tie as tie
+
+abbrev Inv-loop : tie.InvT-loop
+Inv-loop value mask i₀ i = (i ≤ length value) × Passed (λ k. strayIn value mask k ≡ false) i
+
+abbrev μ-loop : tie.MeasureT-loop
+μ-loop value mask i₀ i = length value - i
+
+pub first-stray-spec : {M : Type 1} → statement M
+first-stray-spec =
+    tie.close
+    (tie.spec
+    Inv-loop
+    μ-loop
+    (λ c. search (needs, passed-none))
+    (λ c. search needs)
+    (λ c. search needs)
+    (λ c. search (needs, stray-found, stray-yes, bytes-of))
+    (λ c. search needs)
+    (λ c. search needs)
+    (λ c. search (needs, passed-more, stray-no, bytes-of))
+    (λ c. search (needs, stray-missed)))

@@ -1,0 +1,13 @@
+-- `ternary::wildcard_bits` meets its contract: the exact bits are no more than the positions. Assumes nothing.
+use borrow.Author.Needs.{needs}
+use Rattle.ternary.proofs.CountLaws.{exact-le, wildcards-rest}
+use Rattle.ternary.proofs.wildcard_bits.Statement.{statement}
+use Rattle.ternary.proofs.wildcard_bits.Tie as tie
+
+pub wildcard-bits-spec : {M : Type 1} → statement M
+wildcard-bits-spec =
+    tie.close
+    (tie.spec
+    (λ c. search needs)
+    (λ c. search (needs, exact-le))
+    (λ c. search (needs, wildcards-rest)))
