@@ -1,0 +1,45 @@
+-- The fields of the i-th record, where they lie in the buffer. For every width. Assumes nothing.
+use mathlib.Core.Path.{_≡_, ap, ap₂, sym, _∙_}
+use mathlib.Core.Bool.{not, _&&_}
+use mathlib.Core.List.{List}
+use Prim.Native.Nat.{ℕ, _+_, _*_, _≤_, _<_}
+use native.Mathlib.Omega.{arith}
+use lib.Dec.{eqb}
+use lib.ListN.{length}
+use Rattle.model.specs.Pattern.{matches}
+use Rattle.model.specs.Policy.{Rule, ruleMatches}
+use Rattle.model.specs.Records.{Slot}
+use Rattle.model.specs.Ends.{holds}
+use Rattle.buffers.specs.Numbers.{be}
+use Rattle.buffers.specs.Parts.{part}
+use Rattle.buffers.proofs.PartLaws.{part-part}
+use Rattle.records.specs.Layout.{ruleValue, ruleMask, ruleSize, slotSequence, slotValue, slotMask, slotSize}
+use Rattle.records.specs.Rules.{decodeRule, ruleCount, ruleIn, rules}
+use Rattle.records.specs.Slots.{decodeSlot, slotCount, slotIn, slots}
+use Rattle.records.proofs.RuleLaws.{rule-at}
+use Rattle.records.proofs.SlotLaws.{slot-at}
+
+module _ (w : ℕ) (bs key : List ℕ) (i : ℕ) where
+  pub rule-in-place : i < ruleCount w bs
+      → matches (w * 8) (part w (ruleSize w * i + ruleValue) bs) (part w (ruleSize w * i + ruleMask w) bs) key
+      ≡ ruleMatches (w * 8) (rules w bs) key i
+  unfolding ruleMatches decodeRule
+  rule-in-place l =
+      rw (
+        rule-at w bs i l,
+        part-part w ruleValue (ruleSize w) (ruleSize w * i) bs (omega arith),
+        part-part w (ruleMask w) (ruleSize w) (ruleSize w * i) bs (omega arith),
+      )
+
+  pub slot-in-place : i < slotCount w bs
+      → not (eqb (be (part 4 (slotSize w * i + slotSequence) bs)) 0)
+      && matches (w * 8) (part w (slotSize w * i + slotValue) bs) (part w (slotSize w * i + slotMask w) bs) key
+      ≡ holds (w * 8) (slots w bs) key i
+  unfolding holds decodeSlot
+  slot-in-place l =
+      rw (
+        slot-at w bs i l,
+        part-part 4 slotSequence (slotSize w) (slotSize w * i) bs (omega arith),
+        part-part w slotValue (slotSize w) (slotSize w * i) bs (omega arith),
+        part-part w (slotMask w) (slotSize w) (slotSize w * i) bs (omega arith),
+      )

@@ -1,0 +1,41 @@
+-- `checks::matching::rule_matches` meets its contract: the rows that are lent are those of the rule. Assumes nothing.
+use borrow.Author.Needs.{needs}
+use mathlib.Core.Path.{_∙_}
+use Prim.Native.Nat.{_+_, _*_}
+use native.Mathlib.Omega.{arith}
+use native.Mathlib.Nat.{add-sub-cancel-left}
+use Rattle.buffers.proofs.PartLaws.{part-length}
+use Rattle.checks.proofs.InPlace.{rule-in-place}
+use Rattle.checks.proofs.matching.rule_matches.Statement.{statement}
+use Rattle.checks.proofs.matching.rule_matches.Tie as tie
+
+returns : tie.Need-returns
+returns c =
+    let k = c .before .before .before .before .before in
+    let a = k .args in
+    rw (
+      add-sub-cancel-left (32 * a .i + 0) 13,
+      add-sub-cancel-left (32 * a .i + 13) 13,
+      part-length 13 (32 * a .i + 0) (a .policy .now) (omega arith),
+    )
+    at (c .matches-row .ensures)
+    ∙ rule-in-place 13 (a .policy .now) (a .key .now) (a .i) (k .pre .0)
+
+pub rule-matches-spec : {M : Type 1} → statement M
+rule-matches-spec =
+    tie.close
+    (tie.spec
+    (λ c. search needs)
+    (λ c. search needs)
+    (λ c. search needs)
+    (λ c. search needs)
+    (λ c. search needs)
+    (λ c. search needs)
+    (λ c. search needs)
+    (λ c. search needs)
+    (λ c. search needs)
+    (λ c. search needs)
+    (λ c. search needs)
+    (λ c. search needs)
+    (λ c. search needs)
+    returns)

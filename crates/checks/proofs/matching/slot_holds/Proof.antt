@@ -1,0 +1,53 @@
+-- `checks::matching::slot_holds` meets its contract: the sequence and the rows are those of the slot. Assumes nothing.
+use borrow.Author.Needs.{needs}
+use mathlib.Core.Path.{_≡_, sym, _∙_}
+use mathlib.Core.Bool.{not, _&&_}
+use Prim.Native.Nat.{_+_, _*_}
+use native.Mathlib.Omega.{arith}
+use native.Mathlib.Nat.{add-sub-cancel-left}
+use borrow.Author.Tests.{eq-eqb, ne-eqb}
+use Rattle.buffers.proofs.PartLaws.{part-length}
+use Rattle.checks.proofs.InPlace.{slot-in-place}
+use Rattle.checks.proofs.matching.slot_holds.Statement.{statement}
+use Rattle.checks.proofs.matching.slot_holds.Tie as tie
+
+returns : tie.Need-returns
+returns c =
+    let k = c .before .before .before .before in
+    let a = k .args in
+    rw (← slot-in-place 13 (a .s .now) (a .key .now) (a .i) (k .pre .0), ← c .before .be32 .ensures, eq-eqb _ _ (c .if1 .taken))
+
+returns-2 : tie.Need-returns-2
+returns-2 c =
+    let k = c .before .before .before .before .before .before .before in
+    let a = k .args in
+    rw (← slot-in-place 13 (a .s .now) (a .key .now) (a .i) (k .pre .0), ← c .before .before .before .before .be32 .ensures, ne-eqb _ _ (c .before .before .before .if1 .left))
+    (rw (
+      add-sub-cancel-left (40 * a .i + 8) 13,
+      add-sub-cancel-left (40 * a .i + 21) 13,
+      part-length 13 (40 * a .i + 8) (a .s .now) (omega arith),
+    )
+    at (c .matches-row .ensures))
+
+pub slot-holds-spec : {M : Type 1} → statement M
+slot-holds-spec =
+    tie.close
+    (tie.spec
+    (λ c. search needs)
+    (λ c. search needs)
+    (λ c. search needs)
+    returns
+    (λ c. search needs)
+    (λ c. search needs)
+    (λ c. search needs)
+    (λ c. search needs)
+    (λ c. search needs)
+    (λ c. search needs)
+    (λ c. search needs)
+    (λ c. search needs)
+    (λ c. search needs)
+    (λ c. search needs)
+    (λ c. search needs)
+    (λ c. search needs)
+    (λ c. search needs)
+    returns-2)

@@ -1,0 +1,13 @@
+-- A refusal: its number and its place. Assumes nothing.
+use mathlib.Core.Option.{Option, none, some}
+use Prim.Native.Nat.{ℕ}
+use Rattle.checks.specs.declared.refusal.Refusal.{Refusal}
+
+-- the refusal with this number, at this place
+abbrev pub refusal : ℕ → ℕ → Refusal
+refusal number place = record { number = number; place = place }
+
+-- the first of two tests' refusals
+abbrev pub orElse : Option Refusal → Option Refusal → Option Refusal
+orElse (some r) later = some r
+orElse none later = later

@@ -1,0 +1,149 @@
+// Flaws: a record's spare byte that is not zero, or a value bit of it under a wildcard.
+use records::layout::KEY_SIZE;
+use records::layout::REPORT_ZERO;
+use records::layout::RULE_MASK;
+use records::layout::RULE_SIZE;
+use records::layout::RULE_SPARE;
+use records::layout::RULE_VALUE;
+use records::layout::TRACE_SIZE;
+use records::layout::TRACE_SPARE;
+use records::layout::WRITE_MASK;
+use records::layout::WRITE_SPARE;
+use records::layout::WRITE_VALUE;
+use records::layout::WRITE_ZERO;
+ghost use mathlib.Core.Path.{_≡_};
+ghost use mathlib.Core.Option.{none};
+ghost use Prim.Native.Nat.{_+_, _≤_};
+ghost use lib.ListN.{length};
+ghost use Rattle.records.specs.Layout.{keySize, ruleSize, traceSize, writeSize, reportSize};
+ghost use Rattle.records.specs.Rules.{ruleCount};
+ghost use Rattle.records.specs.Traces.{packetCount};
+ghost use Rattle.checks.specs.Flaws.{isFlawed, flawOf, strayIn, ruleFlaw, traceFlaw, writeFlaw, reportFlaw, firstFlawed, ruleFlawAt, traceFlawAt};
+
+// What is wrong with a record, with the lowest byte of it that is: a spare byte is told before a value bit.
+pub enum Flaw {
+    Clean,
+    Spare(usize),
+    Stray(usize),
+}
+
+// Whether it is a flaw.
+fn is_flawed(flaw: Flaw) -> bool
+    ensures { λ r. ⌜ r ≡ isFlawed flaw ⌝ }
+{
+    match flaw {
+        Flaw::Clean => false,
+        Flaw::Spare(_) => true,
+        Flaw::Stray(_) => true,
+    }
+}
+
+// The value bits of a record under its wildcards, as a flaw: rows at `value` and at `mask`.
+fn stray_flaw(r: &[u8], value: usize, mask: usize) -> Flaw
+    requires { ⌜ (value + keySize ≤ length (now r)) × (mask + keySize ≤ length (now r)) ⌝ }
+    ensures { λ x. ⌜ x ≡ flawOf none (strayIn keySize value mask (now (r .entry))) ⌝ }
+{
+    match ternary::first_stray(&r[value..value + KEY_SIZE], &r[mask..mask + KEY_SIZE]) {
+        ternary::Stray::Clean => Flaw::Clean,
+        ternary::Stray::At(i) => Flaw::Stray(value + i),
+    }
+}
+
+// The flaw of a rule's record.
+pub fn rule_flaw(r: &[u8]) -> Flaw
+    requires { ⌜ length (now r) ≡ ruleSize keySize ⌝ }
+    ensures { λ x. ⌜ x ≡ ruleFlaw keySize (now (r .entry)) ⌝ }
+{
+    if r[RULE_SPARE] != 0 {
+        return Flaw::Spare(RULE_SPARE);
+    }
+    if r[RULE_SPARE + 1] != 0 {
+        return Flaw::Spare(RULE_SPARE + 1);
+    }
+    stray_flaw(r, RULE_VALUE, RULE_MASK)
+}
+
+// The flaw of a trace's record.
+pub fn trace_flaw(r: &[u8]) -> Flaw
+    requires { ⌜ length (now r) ≡ traceSize keySize ⌝ }
+    ensures { λ x. ⌜ x ≡ traceFlaw keySize (now (r .entry)) ⌝ }
+{
+    if r[TRACE_SPARE] != 0 {
+        return Flaw::Spare(TRACE_SPARE);
+    }
+    if r[TRACE_SPARE + 1] != 0 {
+        return Flaw::Spare(TRACE_SPARE + 1);
+    }
+    if r[TRACE_SPARE + 2] != 0 {
+        return Flaw::Spare(TRACE_SPARE + 2);
+    }
+    Flaw::Clean
+}
+
+// The flaw of a write.
+pub fn write_flaw(r: &[u8]) -> Flaw
+    requires { ⌜ length (now r) ≡ writeSize keySize ⌝ }
+    ensures { λ x. ⌜ x ≡ writeFlaw keySize (now (r .entry)) ⌝ }
+{
+    if r[WRITE_ZERO] != 0 {
+        return Flaw::Spare(WRITE_ZERO);
+    }
+    if r[WRITE_SPARE] != 0 {
+        return Flaw::Spare(WRITE_SPARE);
+    }
+    if r[WRITE_SPARE + 1] != 0 {
+        return Flaw::Spare(WRITE_SPARE + 1);
+    }
+    stray_flaw(r, WRITE_VALUE, WRITE_MASK)
+}
+
+// The flaw of a report.
+pub fn report_flaw(r: &[u8]) -> Flaw
+    requires { ⌜ length (now r) ≡ reportSize ⌝ }
+    ensures { λ x. ⌜ x ≡ reportFlaw (now (r .entry)) ⌝ }
+{
+    if r[REPORT_ZERO] != 0 {
+        return Flaw::Spare(REPORT_ZERO);
+    }
+    Flaw::Clean
+}
+
+// The first record with a flaw, and its flaw.
+pub enum Checked {
+    AllClean,
+    Flawed(usize, Flaw),
+}
+
+// The first flawed rule of a policy.
+pub fn first_flawed_rule(policy: &[u8]) -> Checked
+    ensures { λ x. ⌜ x ≡ firstFlawed (ruleFlawAt keySize (now (policy .entry))) (ruleCount keySize (now (policy .entry))) ⌝ }
+{
+    let n = policy.len() / RULE_SIZE;
+    let mut i = 0;
+    while i < n {
+        let at = RULE_SIZE * i;
+        let flaw = rule_flaw(&policy[at..at + RULE_SIZE]);
+        if is_flawed(flaw) {
+            return Checked::Flawed(i, flaw);
+        }
+        i += 1;
+    }
+    Checked::AllClean
+}
+
+// The first flawed record of a trace.
+pub fn first_flawed_packet(trace: &[u8]) -> Checked
+    ensures { λ x. ⌜ x ≡ firstFlawed (traceFlawAt keySize (now (trace .entry))) (packetCount keySize (now (trace .entry))) ⌝ }
+{
+    let n = trace.len() / TRACE_SIZE;
+    let mut i = 0;
+    while i < n {
+        let at = TRACE_SIZE * i;
+        let flaw = trace_flaw(&trace[at..at + TRACE_SIZE]);
+        if is_flawed(flaw) {
+            return Checked::Flawed(i, flaw);
+        }
+        i += 1;
+    }
+    Checked::AllClean
+}
