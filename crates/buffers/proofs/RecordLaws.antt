@@ -96,7 +96,8 @@ module _ {A : Type 0} (size : ℕ) (decode : List ℕ → A) where
       rw zeroth (back (part size 0 bs) (part-length size 0 bs (omega arith)) (part-bytes size 0 bs h))
       in
       let others : spelled encode (tab (λ (j : ℕ). decode (chunk size bs (suc j))) n) ≡ drop size bs =
-      ap (spelled encode) (tab-same (λ (j : ℕ). decode (chunk size (drop size bs) j)) (λ (j : ℕ). decode (chunk size bs (suc j))) n (λ j _. records-next bs j))
+      ap (spelled encode)
+      (tab-same (λ (j : ℕ). decode (chunk size (drop size bs) j)) (λ (j : ℕ). decode (chunk size bs (suc j))) n (λ j _. records-next bs j))
       ∙ records-spell encode back n (drop size bs) rest (drop-bytes size bs h)
       in
       rw (first, others) (take-append-drop size bs)

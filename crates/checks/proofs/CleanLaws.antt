@@ -16,7 +16,8 @@ use Rattle.model.proofs.OrderLaws.{foremost-none, first-missed}
 use Rattle.ternary.proofs.StrayLaws.{canonical-clean, clean-canonical}
 use Rattle.buffers.specs.Parts.{part}
 use Rattle.records.specs.Layout.{ruleValue, ruleMask, writeValue, writeMask}
-use Rattle.checks.specs.Flaws.{firstNonzero, strayIn, flawOf, ruleSpares, traceSpares, writeSpares, reportSpares, ruleFlaw, traceFlaw, writeFlaw, reportFlaw, isFlawed, checkedOf, firstFlawed}
+use Rattle.checks.specs.Flaws.{firstNonzero, strayIn, flawOf, isFlawed, checkedOf, firstFlawed}
+use Rattle.checks.specs.Flaws.{ruleSpares, traceSpares, writeSpares, reportSpares, ruleFlaw, traceFlaw, writeFlaw, reportFlaw}
 use Rattle.checks.specs.declared.flaw.Flaw.{Flaw}
 use Rattle.checks.specs.declared.flaw.Flaw.the-variants.{Clean, Spare, Stray}
 use Rattle.checks.specs.declared.flaw.Checked.the-variants.{AllClean, Flawed}

@@ -1,29 +1,18 @@
--- The search for flaws: what the search for a stray bit answered, and a loop over records. Assumes nothing.
-use mathlib.Core.Path.{_≡_, refl, sym, ap}
+-- The search for flaws: inside a record, and over records. Assumes nothing.
+use mathlib.Core.Path.{_≡_, sym, ap}
 use mathlib.Core.Bool.{true, false}
 use mathlib.Core.List.{List}
-use mathlib.Core.Option.{Option, none, some}
+use mathlib.Core.Option.{some}
 use Prim.Native.Nat.{ℕ, _+_, _≤_, _<_}
-use native.Mathlib.Omega.{arith}
 use lib.Dec.{ltb}
 use Rattle.model.specs.Pattern.{firstStray, strayIn}
 use Rattle.model.proofs.BelowLaws.{Passed, passed-none, passed-more}
 use Rattle.model.proofs.OrderLaws.{foremost-some, first-found, first-missed}
-use Rattle.ternary.specs.Strays.{strayOf}
-use Rattle.ternary.specs.declared.Stray.the-variants.{Clean as NoStray, At}
 use Rattle.checks.specs.Flaws.{isFlawed, checkedOf, firstFlawed}
 use Rattle.checks.specs.declared.flaw.Flaw.{Flaw}
 use Rattle.checks.specs.declared.flaw.Checked.the-variants.{AllClean, Flawed}
 
--- ---- what the search for a stray bit answers
-
-pub stray-some : (o : Option ℕ) (i : ℕ) → At i ≡ strayOf o → o ≡ some i
-stray-some none i e = let z : _≡_ {A = ℕ} 0 1 = cc in absurd (omega arith)
-stray-some (some j) i e = cc
-
-pub stray-none : (o : Option ℕ) → NoStray ≡ strayOf o → o ≡ none
-stray-none none e = refl
-stray-none (some j) e = let z : _≡_ {A = ℕ} 0 1 = cc in absurd (omega arith)
+-- ---- a stray bit lies inside its row
 
 pub stray-inside : (w : ℕ) (value mask : List ℕ) (i : ℕ) → firstStray w value mask ≡ some i → i < w
 unfolding firstStray

@@ -8,7 +8,8 @@ use lib.ListN.{getD}
 use Rattle.model.specs.Below.{firstBelow}
 use Rattle.model.specs.Pattern.{firstStray}
 use Rattle.buffers.specs.Parts.{part, chunk}
-use Rattle.records.specs.Layout.{ruleValue, ruleMask, ruleSpare, ruleSize, traceSpare, traceSize, writeZero, writeValue, writeMask, writeSpare, reportZero}
+use Rattle.records.specs.Layout.{ruleValue, ruleMask, ruleSpare, ruleSize, traceSpare, traceSize}
+use Rattle.records.specs.Layout.{writeZero, writeValue, writeMask, writeSpare, reportZero}
 use Rattle.checks.specs.declared.flaw.Flaw.{Flaw}
 use Rattle.checks.specs.declared.flaw.Flaw.the-variants.{Clean, Spare, Stray}
 use Rattle.checks.specs.declared.flaw.Checked.{Checked}

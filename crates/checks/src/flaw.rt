@@ -15,10 +15,12 @@ ghost use mathlib.Core.Path.{_≡_};
 ghost use mathlib.Core.Option.{none};
 ghost use Prim.Native.Nat.{_+_, _≤_};
 ghost use lib.ListN.{length};
-ghost use Rattle.records.specs.Layout.{keySize, ruleSize, traceSize, writeSize, reportSize};
+ghost use Rattle.ternary.specs.Sizes.{keySize};
+ghost use Rattle.records.specs.Layout.{ruleSize, traceSize, writeSize, reportSize};
 ghost use Rattle.records.specs.Rules.{ruleCount};
 ghost use Rattle.records.specs.Traces.{packetCount};
-ghost use Rattle.checks.specs.Flaws.{isFlawed, flawOf, strayIn, ruleFlaw, traceFlaw, writeFlaw, reportFlaw, firstFlawed, ruleFlawAt, traceFlawAt};
+ghost use Rattle.checks.specs.Flaws.{isFlawed, flawOf, strayIn, ruleFlaw, traceFlaw, writeFlaw, reportFlaw};
+ghost use Rattle.checks.specs.Flaws.{firstFlawed, ruleFlawAt, traceFlawAt};
 
 // What is wrong with a record, with the lowest byte of it that is: a spare byte is told before a value bit.
 pub enum Flaw {

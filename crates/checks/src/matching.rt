@@ -12,14 +12,14 @@ ghost use Prim.Native.Nat.{_*_, _<_};
 ghost use lib.ListN.{length};
 ghost use Rattle.model.specs.Policy.{ruleMatches};
 ghost use Rattle.model.specs.Ends.{holds};
-ghost use Rattle.records.specs.Layout.{keySize};
+ghost use Rattle.ternary.specs.Sizes.{keySize, positions};
 ghost use Rattle.records.specs.Rules.{ruleCount, rules};
 ghost use Rattle.records.specs.Slots.{slotCount, slots};
 
 // Whether the i-th rule of a policy takes the key.
 pub fn rule_matches(policy: &[u8], i: usize, key: &[u8]) -> bool
     requires { ⌜ (i < ruleCount keySize (now policy)) × (length (now key) ≡ keySize) ⌝ }
-    ensures { λ r. ⌜ r ≡ ruleMatches (keySize * 8) (rules keySize (now (policy .entry))) (now (key .entry)) i ⌝ }
+    ensures { λ r. ⌜ r ≡ ruleMatches (positions) (rules keySize (now (policy .entry))) (now (key .entry)) i ⌝ }
 {
     let value = RULE_SIZE * i + RULE_VALUE;
     let mask = RULE_SIZE * i + RULE_MASK;
@@ -33,7 +33,7 @@ pub fn rule_matches(policy: &[u8], i: usize, key: &[u8]) -> bool
 // Whether the i-th slot of an end is not empty and takes the key.
 pub fn slot_holds(s: &[u8], i: usize, key: &[u8]) -> bool
     requires { ⌜ (i < slotCount keySize (now s)) × (length (now key) ≡ keySize) ⌝ }
-    ensures { λ r. ⌜ r ≡ holds (keySize * 8) (slots keySize (now (s .entry))) (now (key .entry)) i ⌝ }
+    ensures { λ r. ⌜ r ≡ holds (positions) (slots keySize (now (s .entry))) (now (key .entry)) i ⌝ }
 {
     if buffers::be32(s, SLOT_SIZE * i + SLOT_SEQUENCE) == 0 {
         return false;

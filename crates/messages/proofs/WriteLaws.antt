@@ -9,7 +9,8 @@ use Rattle.model.specs.Records.{Write}
 use Rattle.buffers.specs.Numbers.{be, toBe}
 use Rattle.buffers.proofs.NumberLaws.{be-toBe}
 use Rattle.buffers.proofs.FieldLaws.{part-past, value-there, mask-there, after-rows, part-then, number-then, pair-then, pair-last}
-use Rattle.records.specs.Layout.{writeKind, writeZero, writeSlot, writeSequence, writeValue, writeMask, writeAction, writeRule, writeSpare, writeSize, isWrite}
+use Rattle.records.specs.Layout.{writeKind, writeZero, writeSlot, writeSequence, writeValue, writeMask, writeAction, writeRule}
+use Rattle.records.specs.Layout.{writeSpare, writeSize, isWrite}
 use Rattle.messages.specs.Writes.{decodeWrite, encodeWrite, WriteFits}
 
 -- writes with the same fields are the same

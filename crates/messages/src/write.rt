@@ -16,7 +16,8 @@ ghost use mathlib.Core.Path.{_≡_};
 ghost use Prim.Native.Nat.{_≤_};
 ghost use lib.ListN.{length};
 ghost use Rattle.buffers.specs.Parts.{splice};
-ghost use Rattle.records.specs.Layout.{keySize, writeSize};
+ghost use Rattle.ternary.specs.Sizes.{keySize};
+ghost use Rattle.records.specs.Layout.{writeSize};
 ghost use Rattle.messages.specs.Writes.{decodeWrite, encodeWrite};
 ghost use Rattle.messages.specs.Structs.{asWrite};
 

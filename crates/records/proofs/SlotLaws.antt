@@ -79,7 +79,9 @@ unfolding slots
 slot-at w bs i l = records-at (slotSize w) (decodeSlot w) (cleared 0) (slotCount w bs) bs i l
 
 -- to put a slot is to set it, and to leave the others
-module _ (w : ℕ) (bs : List ℕ) (i : ℕ) (x : Slot) (below : i < slotCount w bs) (fits : slotSize w * i + slotSize w ≤ length bs) (f : SlotFits w x) where
+module _
+    (w : ℕ) (bs : List ℕ) (i : ℕ) (x : Slot)
+    (below : i < slotCount w bs) (fits : slotSize w * i + slotSize w ≤ length bs) (f : SlotFits w x) where
   pub length-put-slot : length (putSlot w bs i x) ≡ length bs
   length-put-slot = length-splice (slotSize w * i) (encodeSlot x) bs (omega (arith, length-encode-slot w x f))
 

@@ -149,9 +149,6 @@ outcomeSize = 12
 
 -- ---- limits, for keys of 13 bytes
 
-abbrev pub keySize : ℕ
-keySize = 13
-
 abbrev pub mostRules : ℕ
 mostRules = 1024
 

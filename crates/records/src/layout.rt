@@ -1,7 +1,7 @@
 // Where each field of a record begins, each record's size, and the limits. No other file names an offset, a size or a limit.
 
 // A key, and a row of a pattern.
-pub const KEY_SIZE: usize = 13;
+pub const KEY_SIZE: usize = ternary::KEY_SIZE;
 
 // Rule: value, mask, priority 2, action 2, zero 2.
 pub const RULE_VALUE: usize = 0;

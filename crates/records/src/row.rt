@@ -4,7 +4,7 @@ ghost use mathlib.Core.Path.{_≡_};
 ghost use Prim.Native.Nat.{_+_, _≤_};
 ghost use lib.ListN.{length};
 ghost use Rattle.buffers.specs.Parts.{part};
-ghost use Rattle.records.specs.Layout.{keySize};
+ghost use Rattle.ternary.specs.Sizes.{keySize};
 
 // The row that begins at `at`.
 pub fn row_at(s: &[u8], at: usize) -> [u8; KEY_SIZE]

@@ -9,7 +9,8 @@ use crate::row::row_at;
 ghost use mathlib.Core.Path.{_≡_};
 ghost use Prim.Native.Nat.{_<_};
 ghost use lib.ListN.{length};
-ghost use Rattle.records.specs.Layout.{keySize, ruleSize};
+ghost use Rattle.ternary.specs.Sizes.{keySize};
+ghost use Rattle.records.specs.Layout.{ruleSize};
 ghost use Rattle.records.specs.Rules.{decodeRule, ruleCount, ruleIn};
 ghost use Rattle.records.specs.Structs.{asRule};
 

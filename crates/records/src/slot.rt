@@ -16,7 +16,8 @@ use crate::row::row_at;
 ghost use mathlib.Core.Path.{_≡_};
 ghost use Prim.Native.Nat.{_<_};
 ghost use lib.ListN.{length};
-ghost use Rattle.records.specs.Layout.{keySize, slotSize};
+ghost use Rattle.ternary.specs.Sizes.{keySize};
+ghost use Rattle.records.specs.Layout.{slotSize};
 ghost use Rattle.records.specs.Slots.{decodeSlot, encodeSlot, slotCount, slotIn, SlotPut};
 ghost use Rattle.records.specs.Structs.{asSlot};
 

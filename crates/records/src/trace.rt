@@ -4,7 +4,7 @@ use crate::layout::TRACE_KEY;
 use crate::layout::TRACE_SIZE;
 ghost use mathlib.Core.Path.{_≡_};
 ghost use Prim.Native.Nat.{_<_};
-ghost use Rattle.records.specs.Layout.{keySize};
+ghost use Rattle.ternary.specs.Sizes.{keySize};
 ghost use Rattle.records.specs.Traces.{packetCount, keyIn};
 
 // The key of the i-th record, as a part of the trace.

@@ -15,7 +15,7 @@ use Rattle.ternary.specs.Counts.{exactBits}
 use Rattle.ternary.proofs.ByteLaws.{bit-in}
 
 -- the set bits of a byte are its ones
-pub ones-byte : (x : ℕ) → x < 256 → countBelow (λ q. eqb (bitOf x q) 1) 8 ≡ ones x
+ones-byte : (x : ℕ) → x < 256 → countBelow (λ q. eqb (bitOf x q) 1) 8 ≡ ones x
 unfolding digit allBelow countBelow ones onesIn
 ones-byte x h = eqb-true _ _ (all-at (λ x. eqb (countBelow (λ q. eqb (bitOf x q) 1) 8) (ones x)) 256 refl x h)
 

@@ -24,7 +24,7 @@ bit-of-lt x q = digit-lt x (7 - q)
 -- ---- a pattern and a key
 
 -- the bits at which the pattern's byte refuses the key's
-abbrev pub refuses : ℕ → ℕ → ℕ → ℕ
+abbrev refuses : ℕ → ℕ → ℕ → ℕ
 refuses v m k = bitAnd (bitXor k v) m
 
 agree-bits : (v m k : ℕ) → v < 2 → m < 2 → k < 2 → (not (eqb m 1) || eqb v k) ≡ eqb (refuses v m k) 0
@@ -65,7 +65,7 @@ module _ (w : ℕ) (value mask key : List ℕ) where
 -- ---- two patterns
 
 -- the bits at which two patterns' bytes are parted
-abbrev pub differs : ℕ → ℕ → ℕ → ℕ → ℕ
+abbrev differs : ℕ → ℕ → ℕ → ℕ → ℕ
 differs v₁ m₁ v₂ m₂ = bitAnd (bitAnd (bitXor v₁ v₂) m₁) m₂
 
 part-bits : (v₁ m₁ v₂ m₂ : ℕ) → v₁ < 2 → m₁ < 2 → v₂ < 2 → m₂ < 2
@@ -113,7 +113,7 @@ module _ (w : ℕ) (v₁ m₁ v₂ m₂ : List ℕ) where
 -- ---- a value's bits under wildcards
 
 -- those of the value's byte
-abbrev pub stray : ℕ → ℕ → ℕ
+abbrev stray : ℕ → ℕ → ℕ
 stray v m = bitAnd v (255 - m)
 
 stray-bits : (v m : ℕ) → v < 2 → m < 2 → (eqb m 1 || eqb v 0) ≡ eqb (bitAnd v (1 - m)) 0

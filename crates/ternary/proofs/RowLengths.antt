@@ -1,28 +1,19 @@
 -- Rows whose type says their length: what a function of slices answers for them, at that many positions. Assumes nothing.
-use mathlib.Core.Path.{_≡_, refl, sym, ap, _∙_}
+use mathlib.Core.Path.{_≡_, sym, ap, _∙_}
 use mathlib.Core.Bool.{Bool, true, false}
 use mathlib.Core.List.{List}
-use mathlib.Core.Option.{Option, none, some}
 use Prim.Native.Nat.{ℕ, _*_}
-use native.Mathlib.Omega.{arith}
 use lib.ListN.{length}
 use Rattle.model.specs.Pattern.{matches, overlap, canonical, firstStray}
 use Rattle.ternary.specs.Strays.{strayOf}
 use Rattle.ternary.specs.declared.Stray.{Stray}
 use Rattle.ternary.specs.declared.Stray.the-variants.{Clean, At}
-use Rattle.ternary.proofs.StrayLaws.{canonical-clean, canonical-stray}
+use Rattle.ternary.proofs.StrayLaws.{of-clean, of-stray, canonical-clean, canonical-stray}
 
 pub same-long : (w : ℕ) (xs ys : List ℕ) → length xs ≡ w → length ys ≡ w → length xs ≡ length ys
 same-long w xs ys p q = p ∙ sym q
 
-of-clean : (o : Option ℕ) → Clean ≡ strayOf o → o ≡ none
-of-clean none e = refl
-of-clean (some i) e = let z : _≡_ {A = ℕ} 0 1 = cc in absurd (omega arith)
-
-of-stray : (o : Option ℕ) (i : ℕ) → At i ≡ strayOf o → o ≡ some i
-of-stray none i e = let z : _≡_ {A = ℕ} 0 1 = cc in absurd (omega arith)
-of-stray (some k) i e = cc
-
+-- rows of w bytes, which are n positions
 module _ (w n : ℕ) (value mask : List ℕ) (long : length value ≡ w) (at : w * 8 ≡ n) where
   positions : length value * 8 ≡ n
   positions = rw long at

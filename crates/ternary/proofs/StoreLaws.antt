@@ -32,7 +32,7 @@ raise-bits true m p = eqb-true _ _ (all-at (λ m. eqb (bitOr m 1) 1) 2 refl m p)
 raise-bits false m p = eqb-true _ _ (all-at (λ m. eqb (bitOr m 0) m) 2 refl m p)
 
 -- x is the byte y with the bit b at r
-abbrev pub Stored : ℕ → ℕ → ℕ → ℕ → Type 0
+abbrev Stored : ℕ → ℕ → ℕ → ℕ → Type 0
 Stored x y r b = (q : ℕ) → q < 8 → bitOf x q ≡ cond (eqb q r) b (bitOf y q)
 
 at-r : (g : ℕ → ℕ) (z q r : ℕ) → cond (eqb q r) (g q) z ≡ cond (eqb q r) (g r) z
@@ -43,14 +43,14 @@ at-r g z q r = go (eqb q r) refl
     go false e = refl
 
 -- `v ^ ((v ^ k) & (128 >> r))` takes the bit at r from k, and `m | (128 >> r)` sets it
-pub merged : (v k r : ℕ) → r < 8 → Stored (bitXor v (bitAnd (bitXor v k) (128 / 2 ^ r))) v r (bitOf k r)
+merged : (v k r : ℕ) → r < 8 → Stored (bitXor v (bitAnd (bitXor v k) (128 / 2 ^ r))) v r (bitOf k r)
 merged v k r h q l =
     bit-xor v (bitAnd (bitXor v k) (128 / 2 ^ r)) q
     ∙ ap (bitXor (bitOf v q)) (bit-and (bitXor v k) (128 / 2 ^ r) q ∙ ap₂ bitAnd (bit-xor v k q) (one-bit r q h l))
     ∙ merge-bits (eqb q r) (bitOf v q) (bitOf k q) (digit-lt v (7 - q)) (digit-lt k (7 - q))
     ∙ at-r (bitOf k) (bitOf v q) q r
 
-pub raised : (m r : ℕ) → r < 8 → Stored (bitOr m (128 / 2 ^ r)) m r 1
+raised : (m r : ℕ) → r < 8 → Stored (bitOr m (128 / 2 ^ r)) m r 1
 raised m r h q l =
     bit-or m (128 / 2 ^ r) q ∙ ap (bitOr (bitOf m q)) (one-bit r q h l) ∙ raise-bits (eqb q r) (bitOf m q) (digit-lt m (7 - q))
 

@@ -3,9 +3,10 @@
 use mathlib.Core.Path.{_≡_, refl, sym, ap, _∙_}
 use mathlib.Core.Bool.{Bool, true, false, not, _||_}
 use mathlib.Core.List.{List}
-use mathlib.Core.Option.{none, some}
+use mathlib.Core.Option.{Option, none, some}
 use Prim.Native.Nat.{ℕ, _*_, _≤_, _<_}
 use native.Mathlib.Nat.{le-refl}
+use native.Mathlib.Omega.{arith}
 use lib.Dec.{eqb, ltb}
 use Rattle.model.specs.Below.{allBelow}
 use Rattle.model.specs.Bits.{bitAt}
@@ -15,6 +16,15 @@ use Rattle.model.proofs.BelowLaws.{Passed, all-at, all-of, all-fails, all-block
 use Rattle.model.proofs.OrderLaws.{foremost-some, foremost-none, first-found, first-missed}
 use Rattle.ternary.specs.Strays.{strayOf}
 use Rattle.ternary.specs.declared.Stray.the-variants.{Clean, At}
+
+-- what each answer says
+pub of-clean : (o : Option ℕ) → Clean ≡ strayOf o → o ≡ none
+of-clean none e = refl
+of-clean (some i) e = let z : _≡_ {A = ℕ} 0 1 = cc in absurd (omega arith)
+
+pub of-stray : (o : Option ℕ) (i : ℕ) → At i ≡ strayOf o → o ≡ some i
+of-stray none i e = let z : _≡_ {A = ℕ} 0 1 = cc in absurd (omega arith)
+of-stray (some k) i e = cc
 
 not-not : (b : Bool) → b ≡ not (not b)
 not-not true = refl

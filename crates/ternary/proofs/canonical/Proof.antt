@@ -4,14 +4,23 @@ use Rattle.ternary.proofs.RowLengths.{same-long, canonical-yes, canonic
 use Rattle.ternary.proofs.canonical.Statement.{statement}
 use Rattle.ternary.proofs.canonical.Tie as tie
 
+first-stray-requires : tie.Need-first-stray-requires
+first-stray-requires c κs = search (needs, same-long)
+
+returns : tie.Need-returns
+returns c = search (needs, canonical-yes)
+
+returns-2 : tie.Need-returns-2
+returns-2 c = search (needs, canonical-no)
+
 pub canonical-spec : {M : Type 1} → statement M
 canonical-spec =
     tie.close
     (tie.spec
     (λ c. search needs)
     (λ c. search needs)
-    (λ c κs. search (needs, same-long))
+    first-stray-requires
     (λ c. search needs)
     (λ c. search needs)
-    (λ c. search (needs, canonical-yes))
-    (λ c. search (needs, canonical-no)))
+    returns
+    returns-2)

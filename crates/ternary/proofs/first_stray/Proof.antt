@@ -18,17 +18,29 @@ Inv-loop value mask i₀ i = (i ≤ length value) × Passed (λ k. strayIn value
 abbrev μ-loop : tie.MeasureT-loop
 μ-loop value mask i₀ i = length value - i
 
+loop-holds : tie.Need-loop-holds Inv-loop μ-loop
+loop-holds c = search (needs, passed-none)
+
+returns : tie.Need-returns Inv-loop μ-loop
+returns c = search (needs, stray-found, stray-yes, bytes-of)
+
+loop-again : tie.Need-loop-again Inv-loop μ-loop
+loop-again c = search (needs, passed-more, stray-no, bytes-of)
+
+returns-2 : tie.Need-returns-2 Inv-loop μ-loop
+returns-2 c = search (needs, stray-missed)
+
 pub first-stray-spec : {M : Type 1} → statement M
 first-stray-spec =
     tie.close
     (tie.spec
     Inv-loop
     μ-loop
-    (λ c. search (needs, passed-none))
+    loop-holds
     (λ c. search needs)
     (λ c. search needs)
-    (λ c. search (needs, stray-found, stray-yes, bytes-of))
+    returns
     (λ c. search needs)
     (λ c. search needs)
-    (λ c. search (needs, passed-more, stray-no, bytes-of))
-    (λ c. search (needs, stray-missed)))
+    loop-again
+    returns-2)

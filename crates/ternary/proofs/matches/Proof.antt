@@ -4,6 +4,12 @@ use Rattle.ternary.proofs.RowLengths.{same-long, matches-long}
 use Rattle.ternary.proofs.matches.Statement.{statement}
 use Rattle.ternary.proofs.matches.Tie as tie
 
+matches-row-requires : tie.Need-matches-row-requires
+matches-row-requires c κs = search (needs, same-long)
+
+returns : tie.Need-returns
+returns c = search (needs, matches-long)
+
 pub matches-spec : {M : Type 1} → statement M
 matches-spec =
     tie.close
@@ -11,5 +17,5 @@ matches-spec =
     (λ c. search needs)
     (λ c. search needs)
     (λ c. search needs)
-    (λ c κs. search (needs, same-long))
-    (λ c. search (needs, matches-long)))
+    matches-row-requires
+    returns)

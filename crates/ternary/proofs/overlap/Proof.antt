@@ -4,6 +4,12 @@ use Rattle.ternary.proofs.RowLengths.{same-long, overlap-long}
 use Rattle.ternary.proofs.overlap.Statement.{statement}
 use Rattle.ternary.proofs.overlap.Tie as tie
 
+overlap-rows-requires : tie.Need-overlap-rows-requires
+overlap-rows-requires c κs = search (needs, same-long)
+
+returns : tie.Need-returns
+returns c = search (needs, overlap-long)
+
 pub overlap-spec : {M : Type 1} → statement M
 overlap-spec =
     tie.close
@@ -12,5 +18,5 @@ overlap-spec =
     (λ c. search needs)
     (λ c. search needs)
     (λ c. search needs)
-    (λ c κs. search (needs, same-long))
-    (λ c. search (needs, overlap-long)))
+    overlap-rows-requires
+    returns)

@@ -15,19 +15,31 @@ Inv-loop value mask value2 mask2 i₀ i = (i ≤ length value) × Passed (λ k. 
 abbrev μ-loop : tie.MeasureT-loop
 μ-loop value mask value2 mask2 i₀ i = length value - i
 
+loop-holds : tie.Need-loop-holds Inv-loop μ-loop
+loop-holds c = search (needs, passed-none)
+
+returns : tie.Need-returns Inv-loop μ-loop
+returns c = search (needs, overlap-no, bytes-of)
+
+loop-again : tie.Need-loop-again Inv-loop μ-loop
+loop-again c = search (needs, passed-more)
+
+returns-2 : tie.Need-returns-2 Inv-loop μ-loop
+returns-2 c = search (needs, overlap-yes)
+
 pub overlap-rows-spec : {M : Type 1} → statement M
 overlap-rows-spec =
     tie.close
     (tie.spec
     Inv-loop
     μ-loop
-    (λ c. search (needs, passed-none))
+    loop-holds
     (λ c. search needs)
     (λ c. search needs)
     (λ c. search needs)
     (λ c. search needs)
-    (λ c. search (needs, overlap-no, bytes-of))
+    returns
     (λ c. search needs)
     (λ c. search needs)
-    (λ c. search (needs, passed-more))
-    (λ c. search (needs, overlap-yes)))
+    loop-again
+    returns-2)

@@ -4,10 +4,16 @@ use Rattle.ternary.proofs.CountLaws.{exact-le, wildcards-rest}
 use Rattle.ternary.proofs.wildcard_bits.Statement.{statement}
 use Rattle.ternary.proofs.wildcard_bits.Tie as tie
 
+sub-result : tie.Need-sub-result
+sub-result c = search (needs, exact-le)
+
+returns : tie.Need-returns
+returns c = search (needs, wildcards-rest)
+
 pub wildcard-bits-spec : {M : Type 1} → statement M
 wildcard-bits-spec =
     tie.close
     (tie.spec
     (λ c. search needs)
-    (λ c. search (needs, exact-le))
-    (λ c. search (needs, wildcards-rest)))
+    sub-result
+    returns)

@@ -3,7 +3,7 @@ use borrow.Author.Needs.{needs}
 use mathlib.Core.Path.{_≡_, sym, _∙_}
 use Prim.Native.Nat.{_≤_, _-_}
 use native.Mathlib.Nat.{add-sub-cancel-left}
-use Rattle.records.specs.Layout.{keySize}
+use Rattle.ternary.specs.Sizes.{keySize}
 use Rattle.checks.specs.Flaws.{traceFlawAt}
 use Rattle.checks.proofs.FlawLaws.{Unflawed, unflawed-none, unflawed-more, flawed-here, flawed-nowhere}
 use Rattle.checks.proofs.flaw.first_flawed_packet.Statement.{statement}

@@ -5,6 +5,8 @@ use Prim.Native.Nat.{_+_, _*_}
 use native.Mathlib.Omega.{arith}
 use native.Mathlib.Nat.{add-sub-cancel-left}
 use Rattle.buffers.proofs.PartLaws.{part-length}
+use Rattle.ternary.specs.Sizes.{keySize}
+use Rattle.records.specs.Layout.{ruleValue, ruleMask, ruleSize}
 use Rattle.checks.proofs.InPlace.{rule-in-place}
 use Rattle.checks.proofs.matching.rule_matches.Statement.{statement}
 use Rattle.checks.proofs.matching.rule_matches.Tie as tie
@@ -13,13 +15,15 @@ returns : tie.Need-returns
 returns c =
     let k = c .before .before .before .before .before in
     let a = k .args in
+    let value = ruleSize keySize * a .i + ruleValue in
+    let mask = ruleSize keySize * a .i + ruleMask keySize in
     rw (
-      add-sub-cancel-left (32 * a .i + 0) 13,
-      add-sub-cancel-left (32 * a .i + 13) 13,
-      part-length 13 (32 * a .i + 0) (a .policy .now) (omega arith),
+      add-sub-cancel-left value keySize,
+      add-sub-cancel-left mask keySize,
+      part-length keySize value (a .policy .now) (omega arith),
     )
     at (c .matches-row .ensures)
-    ∙ rule-in-place 13 (a .policy .now) (a .key .now) (a .i) (k .pre .0)
+    ∙ rule-in-place keySize (a .policy .now) (a .key .now) (a .i) (k .pre .0)
 
 pub rule-matches-spec : {M : Type 1} → statement M
 rule-matches-spec =

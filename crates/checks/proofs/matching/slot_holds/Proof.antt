@@ -7,6 +7,8 @@ use native.Mathlib.Omega.{arith}
 use native.Mathlib.Nat.{add-sub-cancel-left}
 use borrow.Author.Tests.{eq-eqb, ne-eqb}
 use Rattle.buffers.proofs.PartLaws.{part-length}
+use Rattle.ternary.specs.Sizes.{keySize}
+use Rattle.records.specs.Layout.{slotValue, slotMask, slotSize}
 use Rattle.checks.proofs.InPlace.{slot-in-place}
 use Rattle.checks.proofs.matching.slot_holds.Statement.{statement}
 use Rattle.checks.proofs.matching.slot_holds.Tie as tie
@@ -15,17 +17,23 @@ returns : tie.Need-returns
 returns c =
     let k = c .before .before .before .before in
     let a = k .args in
-    rw (← slot-in-place 13 (a .s .now) (a .key .now) (a .i) (k .pre .0), ← c .before .be32 .ensures, eq-eqb _ _ (c .if1 .taken))
+    rw (← slot-in-place keySize (a .s .now) (a .key .now) (a .i) (k .pre .0), ← c .before .be32 .ensures, eq-eqb _ _ (c .if1 .taken))
 
 returns-2 : tie.Need-returns-2
 returns-2 c =
     let k = c .before .before .before .before .before .before .before in
     let a = k .args in
-    rw (← slot-in-place 13 (a .s .now) (a .key .now) (a .i) (k .pre .0), ← c .before .before .before .before .be32 .ensures, ne-eqb _ _ (c .before .before .before .if1 .left))
+    let value = slotSize keySize * a .i + slotValue in
+    let mask = slotSize keySize * a .i + slotMask keySize in
+    rw (
+      ← slot-in-place keySize (a .s .now) (a .key .now) (a .i) (k .pre .0),
+      ← c .before .before .before .before .be32 .ensures,
+      ne-eqb _ _ (c .before .before .before .if1 .left),
+    )
     (rw (
-      add-sub-cancel-left (40 * a .i + 8) 13,
-      add-sub-cancel-left (40 * a .i + 21) 13,
-      part-length 13 (40 * a .i + 8) (a .s .now) (omega arith),
+      add-sub-cancel-left value keySize,
+      add-sub-cancel-left mask keySize,
+      part-length keySize value (a .s .now) (omega arith),
     )
     at (c .matches-row .ensures))
 

@@ -4,6 +4,7 @@ use mathlib.Core.Path.{refl, ap, _∙_}
 use mathlib.Core.List.{[], _∷_}
 use lib.ListN.{length}
 use Rattle.buffers.proofs.PartLaws.{written-out, append-both}
+use Rattle.records.specs.Layout.{isReport}
 use Rattle.messages.specs.Reports.{encodeReport}
 use Rattle.messages.proofs.report.report_bytes.Statement.{statement}
 use Rattle.messages.proofs.report.report_bytes.Tie as tie
@@ -14,7 +15,7 @@ returns c =
     let s = c .before .before .bytes16 .ensures in
     let q = c .before .bytes32 .ensures in
     let h = c .bytes322 .ensures in
-    append-both {a = 2 ∷ 0 ∷ []} refl
+    append-both {a = isReport ∷ 0 ∷ []} refl
     (append-both (written-out 2 _ (ap length s) ∙ s)
     (append-both (written-out 4 _ (ap length q) ∙ q) (written-out 4 _ (ap length h) ∙ h)))
 

@@ -5,6 +5,7 @@ use mathlib.Core.Path.{_∙_}
 use native.Mathlib.Nat.{add-sub-cancel-left}
 use Rattle.buffers.specs.Parts.{part}
 use Rattle.buffers.proofs.PartLaws.{splice-all, part-length}
+use Rattle.ternary.specs.Sizes.{keySize}
 use Rattle.records.proofs.row.row_at.Statement.{statement}
 use Rattle.records.proofs.row.row_at.Tie as tie
 
@@ -12,7 +13,7 @@ returns : tie.Need-returns
 returns c =
     let k = c .before .before .before .before .before in
     rw add-sub-cancel-left at (c .before .put-bytes .ensures)
-    ∙ splice-all (part 13 (k .args .at) (k .args .s .now)) _ (part-length 13 (k .args .at) (k .args .s .now) (k .pre))
+    ∙ splice-all (part keySize (k .args .at) (k .args .s .now)) _ (part-length keySize (k .args .at) (k .args .s .now) (k .pre))
 
 pub row-at-spec : {M : Type 1} → statement M
 row-at-spec =

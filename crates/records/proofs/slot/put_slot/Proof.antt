@@ -2,6 +2,7 @@
 use borrow.Author.Needs.{needs}
 use mathlib.Core.Path.{_≡_, ap, _∙_}
 use native.Mathlib.Omega.{arith}
+use Rattle.ternary.specs.Sizes.{keySize}
 use Rattle.records.specs.Structs.{asSlot}
 use Rattle.records.specs.Slots.{putSlot, slots}
 use Rattle.records.proofs.SlotLaws.{slots-put}
@@ -12,10 +13,10 @@ returns : tie.Need-returns
 returns c =
     let k = c .before .before .before .before .before .before .before in
     let a = k .args in
-    let e : c .before .before .put-bytes .last .0 ≡ putSlot 13 (a .s .now) (a .i) (asSlot (a .x)) = cc in
+    let e : c .before .before .put-bytes .last .0 ≡ putSlot keySize (a .s .now) (a .i) (asSlot (a .x)) = cc in
     record {
       bytes = e;
-      meaning = ap (slots 13) e ∙ slots-put 13 (a .s .now) (a .i) (asSlot (a .x)) (k .pre) (omega arith) (search needs);
+      meaning = ap (slots keySize) e ∙ slots-put keySize (a .s .now) (a .i) (asSlot (a .x)) (k .pre) (omega arith) (search needs);
     }
 
 pub put-slot-spec : {M : Type 1} → statement M

@@ -5,7 +5,8 @@ use Prim.Native.Nat.{_*_}
 use native.Mathlib.Omega.{arith}
 use native.Mathlib.Nat.{add-sub-cancel-left}
 use Rattle.buffers.proofs.PartLaws.{part-part}
-use Rattle.records.specs.Layout.{keySize, traceKey, traceSize}
+use Rattle.ternary.specs.Sizes.{keySize}
+use Rattle.records.specs.Layout.{traceKey, traceSize}
 use Rattle.records.specs.Traces.{decodeTrace}
 use Rattle.records.proofs.trace.key_at.Statement.{statement}
 use Rattle.records.proofs.trace.key_at.Tie as tie
