@@ -132,22 +132,16 @@ splice-next at k xs ys bs e h =
       append-assoc (take at bs) xs ys,
     )
 
--- two parts, or three, written one after the other fill a buffer
-pub fill-two : (xs ys bs : List ℕ) (k : ℕ) → k ≡ length xs → k + length ys ≡ length bs → splice k ys (splice 0 xs bs) ≡ xs ++ ys
-fill-two xs ys bs k e h =
-    splice-next 0 k xs ys bs (omega arith) (omega arith) ∙ splice-all (xs ++ ys) bs (simp length-append (omega arith))
-
-pub fill-three : (xs ys zs bs : List ℕ) (k l : ℕ) → k ≡ length xs → l ≡ k + length ys → l + length zs ≡ length bs
-    → splice l zs (splice k ys (splice 0 xs bs)) ≡ xs ++ (ys ++ zs)
-fill-three xs ys zs bs k l e f h =
-    ap (splice l zs) (splice-next 0 k xs ys bs (omega arith) (omega arith))
-    ∙ fill-two (xs ++ ys) zs bs l (simp length-append (omega arith)) h
-    ∙ append-assoc xs ys zs
+-- four parts written one after the other fill a buffer
+pub fill-four : (a b c d s : List ℕ) (i j k : ℕ) → i ≡ length a → j ≡ i + length b → k ≡ j + length c → k + length d ≡ length s
+    → splice k d (splice j c (splice i b (splice 0 a s))) ≡ a ++ (b ++ (c ++ d))
+fill-four a b c d s i j k p q r h =
+    ap (λ (x : List ℕ). splice k d (splice j c x)) (splice-next 0 i a b s (omega arith) (omega arith))
+    ∙ ap (splice k d) (splice-next 0 j (a ++ b) c s (simp length-append (omega arith)) (omega arith))
+    ∙ splice-next 0 k ((a ++ b) ++ c) d s (simp length-append (omega arith)) (omega arith)
+    ∙ splice-all (((a ++ b) ++ c) ++ d) s (simp length-append (omega arith))
+    ∙ simp append-assoc
 
 -- two lists joined, each by its own equation
 pub append-both : {a a′ b b′ : List ℕ} → a ≡ a′ → b ≡ b′ → a ++ b ≡ a′ ++ b′
 append-both p q = cc
-
--- the same at the end of three
-pub append-last : (a b : List ℕ) {c t t′ : List ℕ} → c ≡ a ++ (b ++ t) → t ≡ t′ → c ≡ a ++ (b ++ t′)
-append-last a b p q = cc

@@ -1,4 +1,3 @@
--- Laws of flaws, and of records read in place.
+-- Laws of flaws: the search for one, and what a clean record is.
 pub mod FlawLaws
 pub mod CleanLaws
-pub mod InPlace

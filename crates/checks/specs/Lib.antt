@@ -1,3 +1,3 @@
--- What is tested of a record where it lies: its flaws, and whether its pattern takes a key; and the refusals.
+-- What is wrong with a record, and the refusals.
 pub mod Refusals
 pub mod Flaws

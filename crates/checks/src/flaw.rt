@@ -1,16 +1,5 @@
 // Flaws: a record's spare byte that is not zero, or a value bit of it under a wildcard.
-use records::layout::KEY_SIZE;
-use records::layout::REPORT_ZERO;
-use records::layout::RULE_MASK;
-use records::layout::RULE_SIZE;
-use records::layout::RULE_SPARE;
-use records::layout::RULE_VALUE;
-use records::layout::TRACE_SIZE;
-use records::layout::TRACE_SPARE;
-use records::layout::WRITE_MASK;
-use records::layout::WRITE_SPARE;
-use records::layout::WRITE_VALUE;
-use records::layout::WRITE_ZERO;
+use records::layout;
 ghost use mathlib.Core.Path.{_≡_};
 ghost use mathlib.Core.Option.{none};
 ghost use Prim.Native.Nat.{_+_, _≤_};
@@ -45,7 +34,10 @@ fn stray_flaw(r: &[u8], value: usize, mask: usize) -> Flaw
     requires { ⌜ (value + keySize ≤ length (now r)) × (mask + keySize ≤ length (now r)) ⌝ }
     ensures { λ x. ⌜ x ≡ flawOf none (strayIn keySize value mask (now (r .entry))) ⌝ }
 {
-    match ternary::first_stray(&r[value..value + KEY_SIZE], &r[mask..mask + KEY_SIZE]) {
+    match ternary::first_stray(
+        &r[value..value + layout::KEY_SIZE],
+        &r[mask..mask + layout::KEY_SIZE],
+    ) {
         ternary::Stray::Clean => Flaw::Clean,
         ternary::Stray::At(i) => Flaw::Stray(value + i),
     }
@@ -56,13 +48,13 @@ pub fn rule_flaw(r: &[u8]) -> Flaw
     requires { ⌜ length (now r) ≡ ruleSize keySize ⌝ }
     ensures { λ x. ⌜ x ≡ ruleFlaw keySize (now (r .entry)) ⌝ }
 {
-    if r[RULE_SPARE] != 0 {
-        return Flaw::Spare(RULE_SPARE);
+    if r[layout::RULE_SPARE] != 0 {
+        return Flaw::Spare(layout::RULE_SPARE);
     }
-    if r[RULE_SPARE + 1] != 0 {
-        return Flaw::Spare(RULE_SPARE + 1);
+    if r[layout::RULE_SPARE + 1] != 0 {
+        return Flaw::Spare(layout::RULE_SPARE + 1);
     }
-    stray_flaw(r, RULE_VALUE, RULE_MASK)
+    stray_flaw(r, layout::RULE_VALUE, layout::RULE_MASK)
 }
 
 // The flaw of a trace's record.
@@ -70,14 +62,14 @@ pub fn trace_flaw(r: &[u8]) -> Flaw
     requires { ⌜ length (now r) ≡ traceSize keySize ⌝ }
     ensures { λ x. ⌜ x ≡ traceFlaw keySize (now (r .entry)) ⌝ }
 {
-    if r[TRACE_SPARE] != 0 {
-        return Flaw::Spare(TRACE_SPARE);
+    if r[layout::TRACE_SPARE] != 0 {
+        return Flaw::Spare(layout::TRACE_SPARE);
     }
-    if r[TRACE_SPARE + 1] != 0 {
-        return Flaw::Spare(TRACE_SPARE + 1);
+    if r[layout::TRACE_SPARE + 1] != 0 {
+        return Flaw::Spare(layout::TRACE_SPARE + 1);
     }
-    if r[TRACE_SPARE + 2] != 0 {
-        return Flaw::Spare(TRACE_SPARE + 2);
+    if r[layout::TRACE_SPARE + 2] != 0 {
+        return Flaw::Spare(layout::TRACE_SPARE + 2);
     }
     Flaw::Clean
 }
@@ -87,16 +79,16 @@ pub fn write_flaw(r: &[u8]) -> Flaw
     requires { ⌜ length (now r) ≡ writeSize keySize ⌝ }
     ensures { λ x. ⌜ x ≡ writeFlaw keySize (now (r .entry)) ⌝ }
 {
-    if r[WRITE_ZERO] != 0 {
-        return Flaw::Spare(WRITE_ZERO);
+    if r[layout::WRITE_ZERO] != 0 {
+        return Flaw::Spare(layout::WRITE_ZERO);
     }
-    if r[WRITE_SPARE] != 0 {
-        return Flaw::Spare(WRITE_SPARE);
+    if r[layout::WRITE_SPARE] != 0 {
+        return Flaw::Spare(layout::WRITE_SPARE);
     }
-    if r[WRITE_SPARE + 1] != 0 {
-        return Flaw::Spare(WRITE_SPARE + 1);
+    if r[layout::WRITE_SPARE + 1] != 0 {
+        return Flaw::Spare(layout::WRITE_SPARE + 1);
     }
-    stray_flaw(r, WRITE_VALUE, WRITE_MASK)
+    stray_flaw(r, layout::WRITE_VALUE, layout::WRITE_MASK)
 }
 
 // The flaw of a report.
@@ -104,8 +96,8 @@ pub fn report_flaw(r: &[u8]) -> Flaw
     requires { ⌜ length (now r) ≡ reportSize ⌝ }
     ensures { λ x. ⌜ x ≡ reportFlaw (now (r .entry)) ⌝ }
 {
-    if r[REPORT_ZERO] != 0 {
-        return Flaw::Spare(REPORT_ZERO);
+    if r[layout::REPORT_ZERO] != 0 {
+        return Flaw::Spare(layout::REPORT_ZERO);
     }
     Flaw::Clean
 }
@@ -120,11 +112,11 @@ pub enum Checked {
 pub fn first_flawed_rule(policy: &[u8]) -> Checked
     ensures { λ x. ⌜ x ≡ firstFlawed (ruleFlawAt keySize (now (policy .entry))) (ruleCount keySize (now (policy .entry))) ⌝ }
 {
-    let n = policy.len() / RULE_SIZE;
+    let n = policy.len() / layout::RULE_SIZE;
     let mut i = 0;
     while i < n {
-        let at = RULE_SIZE * i;
-        let flaw = rule_flaw(&policy[at..at + RULE_SIZE]);
+        let at = layout::RULE_SIZE * i;
+        let flaw = rule_flaw(&policy[at..at + layout::RULE_SIZE]);
         if is_flawed(flaw) {
             return Checked::Flawed(i, flaw);
         }
@@ -137,11 +129,11 @@ pub fn first_flawed_rule(policy: &[u8]) -> Checked
 pub fn first_flawed_packet(trace: &[u8]) -> Checked
     ensures { λ x. ⌜ x ≡ firstFlawed (traceFlawAt keySize (now (trace .entry))) (packetCount keySize (now (trace .entry))) ⌝ }
 {
-    let n = trace.len() / TRACE_SIZE;
+    let n = trace.len() / layout::TRACE_SIZE;
     let mut i = 0;
     while i < n {
-        let at = TRACE_SIZE * i;
-        let flaw = trace_flaw(&trace[at..at + TRACE_SIZE]);
+        let at = layout::TRACE_SIZE * i;
+        let flaw = trace_flaw(&trace[at..at + layout::TRACE_SIZE]);
         if is_flawed(flaw) {
             return Checked::Flawed(i, flaw);
         }

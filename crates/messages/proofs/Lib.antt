@@ -1,4 +1,3 @@
--- Laws of messages and outcomes: decoding and encoding undo each other.
+-- Laws of messages: decoding and encoding undo each other.
 pub mod WriteLaws
 pub mod ReportLaws
-pub mod OutcomeLaws

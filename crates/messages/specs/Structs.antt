@@ -1,14 +1,10 @@
 -- The code's structs as the model's records. Assumes nothing.
-use Rattle.model.specs.Records.{Write, Report, Outcome}
+use Rattle.model.specs.Records.{Write, Report}
 use Rattle.messages.specs.declared.write.Write.{Write as WriteStruct}
 use Rattle.messages.specs.declared.report.Report.{Report as ReportStruct}
-use Rattle.messages.specs.declared.outcome.Outcome.{Outcome as OutcomeStruct}
 
 abbrev pub asWrite : WriteStruct → Write
 asWrite x = record { slot = x .slot; sequence = x .sequence; value = x .value; mask = x .mask; action = x .action; rule = x .rule }
 
 abbrev pub asReport : ReportStruct → Report
 asReport x = record { slot = x .slot; sequence = x .sequence; hits = x .hits }
-
-abbrev pub asOutcome : OutcomeStruct → Outcome
-asOutcome x = record { outcome = x .outcome; action = x .action; rule = x .rule; slot = x .slot; evicted = x .evicted }

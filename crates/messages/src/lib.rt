@@ -1,4 +1,4 @@
-// What the two ends send each other, and what a run tells of each packet: read from bytes, and written.
-pub mod outcome;
+// What the two ends send each other: read from bytes, and written.
+pub mod head;
 pub mod report;
 pub mod write;

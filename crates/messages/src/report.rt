@@ -1,9 +1,6 @@
 // Reports: what the table sends to the keeper.
-use records::layout::IS_REPORT;
-use records::layout::REPORT_HITS;
-use records::layout::REPORT_SEQUENCE;
-use records::layout::REPORT_SIZE;
-use records::layout::REPORT_SLOT;
+use crate::head::head_bytes;
+use records::layout;
 ghost use mathlib.Core.Path.{_≡_};
 ghost use Prim.Native.Nat.{_≤_};
 ghost use lib.ListN.{length};
@@ -24,33 +21,10 @@ pub fn report_of(t: &[u8]) -> Report
     ensures { λ r. ⌜ asReport r ≡ decodeReport (now (t .entry)) ⌝ }
 {
     Report {
-        slot: buffers::be16(t, REPORT_SLOT),
-        sequence: buffers::be32(t, REPORT_SEQUENCE),
-        hits: buffers::be32(t, REPORT_HITS),
+        slot: buffers::be16(t, layout::REPORT_SLOT),
+        sequence: buffers::be32(t, layout::REPORT_SEQUENCE),
+        hits: buffers::be32(t, layout::REPORT_HITS),
     }
-}
-
-// The bytes of a report.
-fn report_bytes(x: Report) -> [u8; REPORT_SIZE]
-    ensures { λ r. ⌜ r ≡ encodeReport (asReport x) ⌝ }
-{
-    let s = buffers::bytes16(x.slot);
-    let q = buffers::bytes32(x.sequence);
-    let h = buffers::bytes32(x.hits);
-    [
-        IS_REPORT,
-        0,
-        s[0],
-        s[1],
-        q[0],
-        q[1],
-        q[2],
-        q[3],
-        h[0],
-        h[1],
-        h[2],
-        h[3],
-    ]
 }
 
 // Writes a report at the start of `out`; the bytes past it stay.
@@ -58,6 +32,8 @@ pub fn put_report(out: &mut [u8], x: Report)
     requires { ⌜ reportSize ≤ length (now out) ⌝ }
     ensures { λ _. ⌜ now (out .exit) ≡ splice 0 (encodeReport (asReport x)) (now (out .entry)) ⌝ }
 {
-    let b = report_bytes(x);
-    buffers::put_bytes(out, 0, &b);
+    let head = head_bytes(layout::IS_REPORT, x.slot, x.sequence);
+    let hits = buffers::bytes32(x.hits);
+    buffers::put_bytes(out, 0, &head);
+    buffers::put_bytes(out, layout::REPORT_HITS, &hits);
 }

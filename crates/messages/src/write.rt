@@ -1,16 +1,8 @@
 // Writes: what the keeper sends to the table.
-use records::body::body_bytes;
-use records::body::joined;
-use records::body::tail_bytes;
-use records::layout::IS_WRITE;
-use records::layout::KEY_SIZE;
-use records::layout::WRITE_ACTION;
-use records::layout::WRITE_MASK;
-use records::layout::WRITE_RULE;
-use records::layout::WRITE_SEQUENCE;
-use records::layout::WRITE_SIZE;
-use records::layout::WRITE_SLOT;
-use records::layout::WRITE_VALUE;
+use crate::head::head_bytes;
+use records::entry::entry_bytes;
+use records::entry::tail_bytes;
+use records::layout;
 use records::row::row_at;
 ghost use mathlib.Core.Path.{_≡_};
 ghost use Prim.Native.Nat.{_≤_};
@@ -24,8 +16,8 @@ ghost use Rattle.messages.specs.Structs.{asWrite};
 pub struct Write {
     pub slot: u16,
     pub sequence: u32,
-    pub value: [u8; KEY_SIZE],
-    pub mask: [u8; KEY_SIZE],
+    pub value: [u8; layout::KEY_SIZE],
+    pub mask: [u8; layout::KEY_SIZE],
     pub action: u16,
     pub rule: u16,
 }
@@ -35,29 +27,27 @@ pub fn write_of(t: &[u8]) -> Write
     requires { ⌜ length (now t) ≡ writeSize keySize ⌝ }
     ensures { λ r. ⌜ asWrite r ≡ decodeWrite keySize (now (t .entry)) ⌝ }
 {
-    let value = row_at(t, WRITE_VALUE);
-    let mask = row_at(t, WRITE_MASK);
+    let value = row_at(t, layout::WRITE_VALUE);
+    let mask = row_at(t, layout::WRITE_MASK);
     Write {
-        slot: buffers::be16(t, WRITE_SLOT),
-        sequence: buffers::be32(t, WRITE_SEQUENCE),
+        slot: buffers::be16(t, layout::WRITE_SLOT),
+        sequence: buffers::be32(t, layout::WRITE_SEQUENCE),
         value,
         mask,
-        action: buffers::be16(t, WRITE_ACTION),
-        rule: buffers::be16(t, WRITE_RULE),
+        action: buffers::be16(t, layout::WRITE_ACTION),
+        rule: buffers::be16(t, layout::WRITE_RULE),
     }
 }
 
 // The bytes of a write.
-fn write_bytes(x: Write) -> [u8; WRITE_SIZE]
+fn write_bytes(x: Write) -> [u8; layout::WRITE_SIZE]
     ensures { λ r. ⌜ r ≡ encodeWrite (asWrite x) ⌝ }
 {
     let value = x.value;
     let mask = x.mask;
-    let s = buffers::bytes16(x.slot);
-    let q = buffers::bytes32(x.sequence);
+    let head = head_bytes(layout::IS_WRITE, x.slot, x.sequence);
     let tail = tail_bytes(x.action, x.rule, 0, 0);
-    let body = body_bytes(value, mask, tail);
-    joined([IS_WRITE, 0, s[0], s[1], q[0], q[1], q[2], q[3]], body)
+    entry_bytes(head, value, mask, tail)
 }
 
 // Writes a write at the start of `out`; the bytes past it stay.

@@ -1,4 +1,3 @@
--- Laws of the records: decoding and encoding undo each other, and to put a record is to set it.
+-- Laws of rules and traces: decoding and encoding undo each other.
 pub mod RuleLaws
 pub mod TraceLaws
-pub mod SlotLaws

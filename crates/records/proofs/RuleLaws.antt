@@ -1,13 +1,15 @@
 -- Laws of rules, for every width. Assumes nothing.
-use Prim.Native.Nat.{ℕ, _+_, _<_}
+use Prim.Native.Nat.{ℕ, _+_, _*_, _<_}
 use mathlib.Core.Path.{_≡_, refl, ap, _∙_}
 use mathlib.Core.List.{List, [], _∷_, _++_}
 use native.Mathlib.Omega.{arith}
 use lib.ListN.{length, take, drop, getD, length-append}
 use Rattle.model.specs.Bits.{Bytes}
-use Rattle.model.specs.Policy.{Rule, ruleAt}
+use Rattle.model.specs.Pattern.{matches}
+use Rattle.model.specs.Policy.{Rule, ruleAt, ruleMatches}
 use Rattle.buffers.specs.Numbers.{be, toBe}
 use Rattle.buffers.specs.Parts.{part}
+use Rattle.buffers.proofs.PartLaws.{part-part}
 use Rattle.buffers.proofs.NumberLaws.{be-toBe}
 use Rattle.buffers.proofs.FieldLaws.{part-past, value-there, mask-there, after-rows, part-then, number-then, pair-last}
 use Rattle.buffers.proofs.RecordLaws.{records-count, records-at}
@@ -56,3 +58,15 @@ rule-count w bs = records-count (ruleSize w) (decodeRule w) (ruleCount w bs) bs
 pub rule-at : (w : ℕ) (bs : List ℕ) (i : ℕ) → i < ruleCount w bs → ruleAt (rules w bs) i ≡ ruleIn w bs i
 unfolding rules ruleAt
 rule-at w bs i l = records-at (ruleSize w) (decodeRule w) _ (ruleCount w bs) bs i l
+
+-- its rows, where they lie in the policy
+pub rule-in-place : (w : ℕ) (bs key : List ℕ) (i : ℕ) → i < ruleCount w bs
+    → matches (w * 8) (part w (ruleSize w * i + ruleValue) bs) (part w (ruleSize w * i + ruleMask w) bs) key
+    ≡ ruleMatches (w * 8) (rules w bs) key i
+unfolding ruleMatches decodeRule
+rule-in-place w bs key i l =
+    rw (
+      rule-at w bs i l,
+      part-part w ruleValue (ruleSize w) (ruleSize w * i) bs (omega arith),
+      part-part w (ruleMask w) (ruleSize w) (ruleSize w * i) bs (omega arith),
+    )

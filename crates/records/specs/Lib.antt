@@ -2,5 +2,4 @@
 pub mod Layout
 pub mod Rules
 pub mod Traces
-pub mod Slots
 pub mod Structs

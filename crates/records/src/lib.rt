@@ -1,7 +1,6 @@
-// The records that a caller lends, read and written in place: rules, traces and slots.
-pub mod body;
+// The records that a caller lends: where each field stands; rules and traces, read where they lie.
+pub mod entry;
 pub mod layout;
 pub mod row;
 pub mod rule;
-pub mod slot;
 pub mod trace;

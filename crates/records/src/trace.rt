@@ -1,7 +1,5 @@
 // Traces: the keys of the packets.
-use crate::layout::KEY_SIZE;
-use crate::layout::TRACE_KEY;
-use crate::layout::TRACE_SIZE;
+use crate::layout;
 ghost use mathlib.Core.Path.{_≡_};
 ghost use Prim.Native.Nat.{_<_};
 ghost use Rattle.ternary.specs.Sizes.{keySize};
@@ -12,6 +10,6 @@ pub fn key_at(trace: &[u8], i: usize) -> &[u8]
     requires { ⌜ i < packetCount keySize (now trace) ⌝ }
     ensures { λ r. ⌜ now r ≡ keyIn keySize (now (trace .entry)) i ⌝ }
 {
-    let at = TRACE_SIZE * i + TRACE_KEY;
-    &trace[at..at + KEY_SIZE]
+    let at = layout::TRACE_SIZE * i + layout::TRACE_KEY;
+    &trace[at..at + layout::KEY_SIZE]
 }

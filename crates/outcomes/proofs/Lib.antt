@@ -1,0 +1,2 @@
+-- Laws of outcomes: decoding and encoding undo each other.
+pub mod OutcomeLaws

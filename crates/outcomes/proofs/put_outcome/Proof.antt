@@ -1,0 +1,18 @@
+-- `outcomes::put_outcome` meets its contract: the bytes are copied to their place. Assumes nothing.
+use borrow.Author.Needs.{needs}
+use Rattle.outcomes.proofs.put_outcome.Statement.{statement}
+use Rattle.outcomes.proofs.put_outcome.Tie as tie
+
+returns : tie.Need-returns
+returns c = cc
+
+pub put-outcome-spec : {M : Type 1} → statement M
+put-outcome-spec =
+    tie.close
+    (tie.spec
+    (λ c. search needs)
+    (λ c. search needs)
+    (λ c. search needs)
+    (λ c. search needs)
+    (λ c. search needs)
+    returns)

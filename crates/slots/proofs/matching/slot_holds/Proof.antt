@@ -1,0 +1,61 @@
+-- `slots::matching::slot_holds` meets its contract: the sequence and the rows are those of the slot. Assumes nothing.
+use borrow.Author.Needs.{needs}
+use mathlib.Core.Path.{_≡_, sym, _∙_}
+use mathlib.Core.Bool.{not, _&&_}
+use Prim.Native.Nat.{_+_, _*_}
+use native.Mathlib.Omega.{arith}
+use native.Mathlib.Nat.{add-sub-cancel-left}
+use borrow.Author.Tests.{eq-eqb, ne-eqb}
+use Rattle.buffers.proofs.PartLaws.{part-length}
+use Rattle.ternary.specs.Sizes.{keySize}
+use Rattle.records.specs.Layout.{slotValue, slotMask, slotSize}
+use Rattle.slots.proofs.InPlace.{slot-in-place}
+use Rattle.slots.proofs.matching.slot_holds.Statement.{statement}
+use Rattle.slots.proofs.matching.slot_holds.Tie as tie
+
+returns : tie.Need-returns
+returns c =
+    let k = c .before .before .before .before in
+    let a = k .args in
+    rw (← slot-in-place keySize (a .s .now) (a .key .now) (a .i) (k .pre .0), ← c .before .be32 .ensures, eq-eqb _ _ (c .if1 .taken))
+
+returns-2 : tie.Need-returns-2
+returns-2 c =
+    let k = c .before .before .before .before .before .before .before in
+    let a = k .args in
+    let value = slotSize keySize * a .i + slotValue in
+    let mask = slotSize keySize * a .i + slotMask keySize in
+    rw (
+      ← slot-in-place keySize (a .s .now) (a .key .now) (a .i) (k .pre .0),
+      ← c .before .before .before .before .be32 .ensures,
+      ne-eqb _ _ (c .before .before .before .if1 .left),
+    )
+    (rw (
+      add-sub-cancel-left value keySize,
+      add-sub-cancel-left mask keySize,
+      part-length keySize value (a .s .now) (omega arith),
+    )
+    at (c .matches-row .ensures))
+
+pub slot-holds-spec : {M : Type 1} → statement M
+slot-holds-spec =
+    tie.close
+    (tie.spec
+    (λ c. search needs)
+    (λ c. search needs)
+    (λ c. search needs)
+    returns
+    (λ c. search needs)
+    (λ c. search needs)
+    (λ c. search needs)
+    (λ c. search needs)
+    (λ c. search needs)
+    (λ c. search needs)
+    (λ c. search needs)
+    (λ c. search needs)
+    (λ c. search needs)
+    (λ c. search needs)
+    (λ c. search needs)
+    (λ c. search needs)
+    (λ c. search needs)
+    returns-2)
