@@ -14,13 +14,14 @@ use Rattle.model.specs.Pattern.{canonical}
 use Rattle.model.specs.Records.{Entry, Slot, Write, Report, entryIn, writeFor, written, cleared, slotAt, entryAt}
 use Rattle.model.specs.Ends.{Key, Decisions, firstFor, Miss, noRule, again, place, usedUp, roomIn, missOf, nextEntry, onMiss, missKeeper}
 use Rattle.model.specs.Ends.{writeRefusal, isNewer, afterWrite, writeReport, reportRefusal}
+use Rattle.model.specs.Refusals.{badRecord, reportAhead}
 use Rattle.model.specs.Promise.{Sound}
 use Rattle.model.specs.TraceLink.{NoneBut, InnerRefusalLaw}
 use Rattle.model.proofs.Cases.{by-cases, cond-elim, none-some}
 use Rattle.model.proofs.Slots.{found, roomIn-lt}
 
 -- a report of a slot that is there and not empty
-report-but : (k : List Slot) (r : Report) → r .slot < length k → 0 < r .sequence → NoneBut 11 (reportRefusal k r)
+report-but : (k : List Slot) (r : Report) → r .slot < length k → 0 < r .sequence → NoneBut reportAhead (reportRefusal k r)
 unfolding reportRefusal
 report-but k r inside live =
     rw (lt-leb (length k) (r .slot) inside, ne-eqb (r .sequence) 0 (omega arith))
@@ -56,7 +57,7 @@ module _ (n : ℕ) (p : Decisions) (sound : Sound n p) (k t : List Slot) (equal 
         ne-eqb (nextEntry p k key r .sequence) 0 (omega arith),
       )
 
-  resent-but : (i : ℕ) → firstFor n k key ≡ some i → NoneBut 3 (writeRefusal n t (writeFor i (entryAt k i)))
+  resent-but : (i : ℕ) → firstFor n k key ≡ some i → NoneBut badRecord (writeRefusal n t (writeFor i (entryAt k i)))
   unfolding writeRefusal
   resent-but i e =
       let s = found n k key i e in
@@ -76,7 +77,7 @@ module _ (n : ℕ) (p : Decisions) (sound : Sound n p) (k t : List Slot) (equal 
   same-length (place i e) = length-set k i (written e)
   same-length (usedUp r) = refl
 
-  answer-but : (m : Miss) (x : Write) → writeRefusal n t x ≡ none → NoneBut 11 (reportRefusal (missKeeper k m) (writeReport t x))
+  answer-but : (m : Miss) (x : Write) → writeRefusal n t x ≡ none → NoneBut reportAhead (reportRefusal (missKeeper k m) (writeReport t x))
   unfolding writeReport afterWrite
   answer-but m x taken =
       let is = taken-is n t x taken in

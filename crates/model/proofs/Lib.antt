@@ -8,7 +8,6 @@ pub mod PolicyLaws
 pub mod RoundLaws
 pub mod Isolation
 pub mod SmallPolicy
-pub mod PaperExamples
 pub mod Slots
 pub mod Show
 pub mod Protocol

@@ -9,6 +9,7 @@ use Rattle.model.specs.Policy.{Rule, Accepted}
 use Rattle.model.specs.Records.{Entry, Write, writeFor, reportFor, slotAt, entryAt}
 use Rattle.model.specs.Ends.{Key, Decisions, byPolicy, firstFor, counted, again, place, onMiss, missKeeper, missWrite}
 use Rattle.model.specs.Ends.{writeRefusal, writeReport, reportRefusal}
+use Rattle.model.specs.Refusals.{badRecord, reportAhead}
 use Rattle.model.specs.World.{World, Event, start, run}
 use Rattle.model.specs.Promise.{Kept, Sound}
 use Rattle.model.specs.Trace.{Ends, trace}
@@ -56,10 +57,10 @@ NoneBut r o = (o ≡ none) ⊎ (o ≡ some r)
 -- larger than the keeper's (11)
 pub record InnerRefusals (n : ℕ) (p : Decisions) (e : Ends) (key : Key) : Type 0 where
   pub new : (i : ℕ) (x : Entry) → onMiss n p (e .keeper) key ≡ place i x → writeRefusal n (e .table) (writeFor i x) ≡ none
-  pub resent : (i : ℕ) → onMiss n p (e .keeper) key ≡ again i → NoneBut 3 (writeRefusal n (e .table) (writeFor i (entryAt (e .keeper) i)))
-  pub hit : (i : ℕ) → firstFor n (e .table) key ≡ some i → NoneBut 11 (reportRefusal (e .keeper) (reportFor i (counted (slotAt (e .table) i))))
+  pub resent : (i : ℕ) → onMiss n p (e .keeper) key ≡ again i → NoneBut badRecord (writeRefusal n (e .table) (writeFor i (entryAt (e .keeper) i)))
+  pub hit : (i : ℕ) → firstFor n (e .table) key ≡ some i → NoneBut reportAhead (reportRefusal (e .keeper) (reportFor i (counted (slotAt (e .table) i))))
   pub answer : (x : Write) → missWrite (e .keeper) (onMiss n p (e .keeper) key) ≡ some x → writeRefusal n (e .table) x ≡ none
-      → NoneBut 11 (reportRefusal (missKeeper (e .keeper) (onMiss n p (e .keeper) key)) (writeReport (e .table) x))
+      → NoneBut reportAhead (reportRefusal (missKeeper (e .keeper) (onMiss n p (e .keeper) key)) (writeReport (e .table) x))
 
 abbrev pub InnerRefusalLaw : Type 0
 InnerRefusalLaw = (n : ℕ) (p : Decisions) → Sound n p → (e : Ends) → length (e .keeper) ≡ length (e .table) → 1 ≤ length (e .table)
