@@ -29,10 +29,6 @@ reads-part n at s h =
     let e : at + 0 ≡ at = omega arith in
     rw e at (reads-from (suc n) 0 at s (omega arith))
 
--- a list that is written out by its elements is the list
-pub written-out : (n : ℕ) (v : List ℕ) → length v ≡ n → reads n 0 0 v ≡ v
-written-out n v h = reads-from n 0 0 v (omega arith) ∙ take-all n v (omega arith)
-
 -- ---- cut out
 
 pub part-length : (n at : ℕ) (s : List ℕ) → at + n ≤ length s → length (part n at s) ≡ n
@@ -141,7 +137,3 @@ fill-four a b c d s i j k p q r h =
     ∙ splice-next 0 k ((a ++ b) ++ c) d s (simp length-append (omega arith)) (omega arith)
     ∙ splice-all (((a ++ b) ++ c) ++ d) s (simp length-append (omega arith))
     ∙ simp append-assoc
-
--- two lists joined, each by its own equation
-pub append-both : {a a′ b b′ : List ℕ} → a ≡ a′ → b ≡ b′ → a ++ b ≡ a′ ++ b′
-append-both p q = cc

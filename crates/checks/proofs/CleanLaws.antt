@@ -16,16 +16,11 @@ use Rattle.model.proofs.OrderLaws.{foremost-none, first-missed}
 use Rattle.ternary.proofs.StrayLaws.{canonical-clean, clean-canonical}
 use Rattle.buffers.specs.Parts.{part}
 use Rattle.records.specs.Layout.{ruleValue, ruleMask, writeValue, writeMask}
-use Rattle.checks.specs.Flaws.{firstNonzero, strayIn, flawOf, isFlawed, checkedOf, firstFlawed}
+use Rattle.checks.specs.Flaws.{Zeros, firstNonzero, strayIn, flawOf, isFlawed, checkedOf, firstFlawed}
 use Rattle.checks.specs.Flaws.{ruleSpares, traceSpares, writeSpares, reportSpares, ruleFlaw, traceFlaw, writeFlaw, reportFlaw}
 use Rattle.checks.specs.declared.flaw.Flaw.{Flaw}
 use Rattle.checks.specs.declared.flaw.Flaw.the-variants.{Clean, Spare, Stray}
 use Rattle.checks.specs.declared.flaw.Checked.the-variants.{AllClean, Flawed}
-
--- each of these bytes is zero
-abbrev pub Zeros : List ℕ → List ℕ → Type 0
-Zeros [] c = Unit {0}
-Zeros (at ∷ ats) c = (getD c at 0 ≡ 0) × Zeros ats c
 
 zeros-of : (ats c : List ℕ) → firstNonzero ats c ≡ none → Zeros ats c
 zeros-of [] c e = tt

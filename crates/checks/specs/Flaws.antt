@@ -1,4 +1,5 @@
 -- What is wrong with a record: a spare byte that is not zero, or a value bit under a wildcard. Assumes nothing.
+use mathlib.Core.Path.{_≡_}
 use mathlib.Core.Bool.{Bool, true, false, cond}
 use mathlib.Core.List.{List, [], _∷_}
 use mathlib.Core.Option.{Option, none, some, Option·map}
@@ -19,6 +20,11 @@ use Rattle.checks.specs.declared.flaw.Checked.the-variants.{AllClean, Fl
 abbrev pub firstNonzero : List ℕ → List ℕ → Option ℕ
 firstNonzero [] c = none
 firstNonzero (at ∷ ats) c = let later = firstNonzero ats c in cond (eqb (getD c at 0) 0) later (some at)
+
+-- each of these bytes is zero
+abbrev pub Zeros : List ℕ → List ℕ → Type 0
+Zeros [] c = Unit {0}
+Zeros (at ∷ ats) c = (getD c at 0 ≡ 0) × Zeros ats c
 
 -- the lowest byte of the record's value that has a bit under a wildcard, counted from the record's start
 abbrev pub strayIn : ℕ → ℕ → ℕ → List ℕ → Option ℕ

@@ -1,0 +1,45 @@
+-- How a policy and a key are refused, in the order of the tests. Assumes nothing.
+use mathlib.Core.Path.{_≡_}
+use mathlib.Core.Bool.{Bool, true, false, not}
+use mathlib.Core.List.{List}
+use mathlib.Core.Option.{Option, none, some}
+use Prim.Native.Nat.{ℕ, _*_, _%_, _<_}
+use lib.Dec.{ltb, eqb}
+use lib.ListN.{length}
+use Rattle.model.specs.Policy.{Accepted}
+use Rattle.model.specs.Refusals.{ragged, tooMany, badRecord}
+use Rattle.ternary.specs.Sizes.{keySize}
+use Rattle.buffers.specs.Parts.{chunk}
+use Rattle.records.specs.Layout.{ruleSize, mostRules}
+use Rattle.records.specs.Rules.{ruleCount, rules}
+use Rattle.checks.specs.Refusals.{refusal}
+use Rattle.checks.specs.Flaws.{Zeros, ruleSpares, firstFlawed, ruleFlawAt}
+use Rattle.checks.specs.declared.refusal.Refusal.{Refusal}
+use Rattle.checks.specs.declared.flaw.Checked.{Checked}
+use Rattle.checks.specs.declared.flaw.Checked.the-variants.{AllClean, Flawed}
+
+-- refused with this number where the test fails, else as the later tests say
+abbrev pub need : Bool → ℕ → Option Refusal → Option Refusal
+need true number later = later
+need false number later = some (refusal number 0)
+
+-- 3, with the place of the first flawed record
+abbrev pub flawRefusal : Checked → Option Refusal
+flawRefusal AllClean = none
+flawRefusal (Flawed i flaw) = some (refusal badRecord i)
+
+-- policy 1, 2, 3
+unfoldable pub policyRefusal : List ℕ → Option Refusal
+policyRefusal bs =
+    need (eqb (length bs % ruleSize keySize) 0) ragged
+    (need (not (ltb mostRules (ruleCount keySize bs))) tooMany (flawRefusal (firstFlawed (ruleFlawAt keySize bs) (ruleCount keySize bs))))
+
+-- key 1
+unfoldable pub keyRefusal : List ℕ → Option Refusal
+keyRefusal key = need (eqb (length key) keySize) ragged none
+
+-- what the bytes of a policy that is not refused are: whole records, an accepted policy, zero bytes zero
+pub record AcceptedBytes (bs : List ℕ) : Type 0 where
+  pub whole : length bs ≡ ruleSize keySize * ruleCount keySize bs
+  pub accepted : Accepted keySize mostRules (rules keySize bs)
+  pub spare : (i : ℕ) → i < ruleCount keySize bs → Zeros (ruleSpares keySize) (chunk (ruleSize keySize) bs i)
