@@ -1,0 +1,2 @@
+-- Lists of rule numbers, and what the cover list's call answers.
+pub mod Numbers

@@ -1,0 +1,10 @@
+-- A list of rule numbers at the front of an array. Assumes nothing.
+use mathlib.Core.Path.{_≡_}
+use mathlib.Core.List.{List}
+use Prim.Native.Nat.{ℕ, _≤_}
+use lib.ListN.{length, take}
+
+-- the first `count` of the items are the list xs
+pub record Lists (items : List ℕ) (count : ℕ) (xs : List ℕ) : Type 0 where
+  pub few : count ≤ length items
+  pub same : take count items ≡ xs

@@ -1,0 +1,2 @@
+// The dependents of a rule, which are its cover list.
+pub mod numbers;
