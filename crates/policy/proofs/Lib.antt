@@ -1,0 +1,2 @@
+-- Laws of the policy's calls: what the check accepts.
+pub mod Acceptance
