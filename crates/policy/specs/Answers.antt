@@ -5,7 +5,13 @@ use Prim.Native.Nat.{ℕ}
 use Rattle.ternary.specs.Sizes.{keySize}
 use Rattle.records.specs.Rules.{ruleCount}
 use Rattle.checks.specs.declared.refusal.Refusal.{Refusal}
-use Rattle.policy.specs.Refusals.{policyRefusal}
+use Rattle.checks.specs.Refusals.{orElse}
+use Rattle.policy.specs.Refusals.{policyRefusal, keyRefusal}
+use Rattle.policy.specs.Best.{bestFound}
+use Rattle.policy.specs.declared.BestFound.{BestFound}
+use Rattle.policy.specs.declared.BestFound.the-variants.{NoRule as FoundNone, Rule as FoundRule}
+use Rattle.policy.specs.declared.BestAnswer.{BestAnswer}
+use Rattle.policy.specs.declared.BestAnswer.the-variants.{Refused as BestRefused, NoRule, Rule}
 use Rattle.policy.specs.declared.PolicyAnswer.{PolicyAnswer}
 use Rattle.policy.specs.declared.PolicyAnswer.the-variants.{Refused, Rules}
 
@@ -16,3 +22,16 @@ checkOf none n = Rules n
 
 unfoldable pub checkAnswer : List ℕ → PolicyAnswer
 checkAnswer bs = checkOf (policyRefusal bs) (ruleCount keySize bs)
+
+-- policy 1, 2, 3; key 1
+unfoldable pub bestRefusal : List ℕ → List ℕ → Option Refusal
+bestRefusal bs key = orElse (policyRefusal bs) (keyRefusal key)
+
+-- the refusal, or the best rule
+abbrev pub bestOf : Option Refusal → BestFound → BestAnswer
+bestOf (some r) found = BestRefused r
+bestOf none FoundNone = NoRule
+bestOf none (FoundRule number action) = Rule number action
+
+unfoldable pub bestAnswer : List ℕ → List ℕ → BestAnswer
+bestAnswer bs key = bestOf (bestRefusal bs key) (bestFound bs key)
