@@ -26,7 +26,7 @@ use Rattle.checks.proofs.CleanLaws.{rule-clean, all-clean}
 use Rattle.policy.specs.Refusals.{need, flawRefusal, policyRefusal, AcceptedBytes}
 
 -- no refusal: the test passes, and the later ones do
-need-none : (b : Bool) (number : ℕ) (later : Option Refusal) → need b number later ≡ none → (b ≡ true) × (later ≡ none)
+pub need-none : (b : Bool) (number : ℕ) (later : Option Refusal) → need b number later ≡ none → (b ≡ true) × (later ≡ none)
 need-none true number later e = (refl, e)
 need-none false number later e = let z : _≡_ {A = ℕ} 0 1 = cc in absurd (omega arith)
 
