@@ -58,7 +58,8 @@ NoneBut r o = (o ≡ none) ⊎ (o ≡ some r)
 pub record InnerRefusals (n : ℕ) (p : Decisions) (e : Ends) (key : Key) : Type 0 where
   pub new : (i : ℕ) (x : Entry) → onMiss n p (e .keeper) key ≡ place i x → writeRefusal n (e .table) (writeFor i x) ≡ none
   pub resent : (i : ℕ) → onMiss n p (e .keeper) key ≡ again i → NoneBut badRecord (writeRefusal n (e .table) (writeFor i (entryAt (e .keeper) i)))
-  pub hit : (i : ℕ) → firstFor n (e .table) key ≡ some i → NoneBut reportAhead (reportRefusal (e .keeper) (reportFor i (counted (slotAt (e .table) i))))
+  pub hit : (i : ℕ) → firstFor n (e .table) key ≡ some i
+      → NoneBut reportAhead (reportRefusal (e .keeper) (reportFor i (counted (slotAt (e .table) i))))
   pub answer : (x : Write) → missWrite (e .keeper) (onMiss n p (e .keeper) key) ≡ some x → writeRefusal n (e .table) x ≡ none
       → NoneBut reportAhead (reportRefusal (missKeeper (e .keeper) (onMiss n p (e .keeper) key)) (writeReport (e .table) x))
 

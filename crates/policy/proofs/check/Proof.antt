@@ -19,13 +19,15 @@ returns-3 : tie.Need-returns-3
 unfolding checkAnswer policyRefusal
 returns-3 c =
     let k = c .before .before .before in
-    rw (eq-eqb _ _ (k .before .if1 .left), le-ltb _ _ (k .if2 .left), sym (c .before .before .first-flawed-rule .ensures) ∙ c .enum-told .given .1)
+    let clean = sym (c .before .before .first-flawed-rule .ensures) ∙ c .enum-told .given .1 in
+    rw (eq-eqb _ _ (k .before .if1 .left), le-ltb _ _ (k .if2 .left), clean)
 
 returns-4 : tie.Need-returns-4
 unfolding checkAnswer policyRefusal
 returns-4 c =
     let k = c .before .before .before .before in
-    rw (eq-eqb _ _ (k .before .if1 .left), le-ltb _ _ (k .if2 .left), sym (c .before .before .before .first-flawed-rule .ensures) ∙ c .before .i .given .1)
+    let flawed = sym (c .before .before .before .first-flawed-rule .ensures) ∙ c .before .i .given .1 in
+    rw (eq-eqb _ _ (k .before .if1 .left), le-ltb _ _ (k .if2 .left), flawed)
 
 pub check-spec : {M : Type 1} → statement M
 check-spec =
