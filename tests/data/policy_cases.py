@@ -2,12 +2,13 @@
 
 Two files ask them: policies.bin, in which each policy is a part, and cases.bin, a record for each question:
 question 1, label's length 1, key's length 1, zero 1, then five numbers of four bytes: where the policy begins and how long it is, the rule
-number, the output's length, zero; then the label and the key.
+number, the output's length (the other rule's number where the question is whether two overlap), zero; then the label and the key.
 """
 from policies import OVERLAPS, PARTED, SMALL, V2, V3, V4, V4_ONE_FIELD, V5, V6, V7, V8, V9, fields, key, top
-from rules import KEY, RULE, Refused, Rule, call_best, call_check, call_cover, call_isolate, call_record, policy_bytes, rule_bytes
+from rules import KEY, RULE, Refused, Rule, call_best, call_check, call_cover, call_isolate, call_record
+from rules import overlap, policy_bytes, read_policy, rule_bytes
 
-CHECK, BEST, RECORD, COVER, ISOLATE = range(1, 6)
+CHECK, BEST, RECORD, COVER, ISOLATE, OVERLAP = range(1, 7)
 
 # a rule whose last spare byte is not zero
 FLAWED = rule_bytes(SMALL[1], spare=1)
@@ -32,6 +33,9 @@ def line(question, data, key_, number, room):
     if question == COVER:
         answer = call_cover(data, number, room)
         return said(answer) or ' '.join(['covers'] + [str(i) for i in answer])
+    if question == OVERLAP:
+        policy = read_policy(data)
+        return 'overlap' if overlap(policy[number], policy[room]) else 'apart'
     answer = call_isolate(data, key_, number)
     return said(answer) or (f'value {answer.value.to_bytes(KEY, "big").hex()} mask {answer.mask.to_bytes(KEY, "big").hex()}'
                             f' fixed {answer.fixed} wildcards {answer.wildcards}')
@@ -77,6 +81,8 @@ def vectors(cases):
     cases.ask_all('small', SMALL, shown('1111', '1010', '0000', '1000'))
     cases.ask_all('V1.lap', OVERLAPS, shown('011', '010', '111'))
     cases.ask_all('V1.part', PARTED, shown('100', '010'))
+    cases.ask('V1.b', OVERLAP, policy_bytes(OVERLAPS), number=0, room=1)
+    cases.ask('V1.c', OVERLAP, policy_bytes(PARTED), number=0, room=1)
     cases.ask_all('V2', V2, shown('010011', '000011', '000111', '010111', '011011', '001011', '001101', '001111', '011111', '111111'))
     cases.ask_all('V3', V3, shown('100', '010', '001', '101', '111'))
     cases.ask_all('V4', V4, shown('010011111'))

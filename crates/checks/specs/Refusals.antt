@@ -1,4 +1,5 @@
 -- A refusal: its number and its place. Assumes nothing.
+use mathlib.Core.Bool.{Bool, true, false}
 use mathlib.Core.Option.{Option, none, some}
 use Prim.Native.Nat.{ℕ}
 use Rattle.checks.specs.declared.refusal.Refusal.{Refusal}
@@ -11,3 +12,8 @@ refusal number place = record { number = number; place = place }
 abbrev pub orElse : Option Refusal → Option Refusal → Option Refusal
 orElse (some r) later = some r
 orElse none later = later
+
+-- refused with this number where the test fails, else as the later tests say
+abbrev pub need : Bool → ℕ → Option Refusal → Option Refusal
+need true number later = later
+need false number later = some (refusal number 0)

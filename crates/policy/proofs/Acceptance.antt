@@ -23,7 +23,8 @@ use Rattle.checks.specs.declared.flaw.Flaw.the-variants.{Clean}
 use Rattle.checks.specs.declared.flaw.Checked.{Checked}
 use Rattle.checks.specs.declared.flaw.Checked.the-variants.{AllClean, Flawed}
 use Rattle.checks.proofs.CleanLaws.{rule-clean, all-clean}
-use Rattle.policy.specs.Refusals.{need, flawRefusal, policyRefusal, AcceptedBytes}
+use Rattle.checks.specs.Refusals.{need}
+use Rattle.policy.specs.Refusals.{flawRefusal, policyRefusal, AcceptedBytes}
 
 -- no refusal: the test passes, and the later ones do
 pub need-none : (b : Bool) (number : ℕ) (later : Option Refusal) → need b number later ≡ none → (b ≡ true) × (later ≡ none)

@@ -10,7 +10,8 @@ use Rattle.records.specs.Layout.{ruleSize}
 use Rattle.records.specs.Rules.{ruleCount}
 use Rattle.checks.specs.declared.refusal.Refusal.{Refusal}
 use Rattle.checks.specs.Refusals.{orElse}
-use Rattle.policy.specs.Refusals.{need, policyRefusal, keyRefusal}
+use Rattle.checks.specs.Refusals.{need}
+use Rattle.policy.specs.Refusals.{policyRefusal, keyRefusal}
 use Rattle.policy.specs.Best.{bestFound}
 use Rattle.policy.specs.declared.BestFound.{BestFound}
 use Rattle.policy.specs.declared.BestFound.the-variants.{NoRule as FoundNone, Rule as FoundRule}

@@ -1,6 +1,6 @@
 -- How a policy and a key are refused, in the order of the tests. Assumes nothing.
 use mathlib.Core.Path.{_≡_}
-use mathlib.Core.Bool.{Bool, true, false, not}
+use mathlib.Core.Bool.{not}
 use mathlib.Core.List.{List}
 use mathlib.Core.Option.{Option, none, some}
 use Prim.Native.Nat.{ℕ, _*_, _%_, _<_}
@@ -12,16 +12,11 @@ use Rattle.ternary.specs.Sizes.{keySize}
 use Rattle.buffers.specs.Parts.{chunk}
 use Rattle.records.specs.Layout.{ruleSize, mostRules}
 use Rattle.records.specs.Rules.{ruleCount, rules}
-use Rattle.checks.specs.Refusals.{refusal}
+use Rattle.checks.specs.Refusals.{refusal, need}
 use Rattle.checks.specs.Flaws.{Zeros, ruleSpares, firstFlawed, ruleFlawAt}
 use Rattle.checks.specs.declared.refusal.Refusal.{Refusal}
 use Rattle.checks.specs.declared.flaw.Checked.{Checked}
 use Rattle.checks.specs.declared.flaw.Checked.the-variants.{AllClean, Flawed}
-
--- refused with this number where the test fails, else as the later tests say
-abbrev pub need : Bool → ℕ → Option Refusal → Option Refusal
-need true number later = later
-need false number later = some (refusal number 0)
 
 -- 3, with the place of the first flawed record
 abbrev pub flawRefusal : Checked → Option Refusal
