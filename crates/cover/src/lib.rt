@@ -1,2 +1,3 @@
 // The dependents of a rule, which are its cover list.
+pub mod dependents;
 pub mod numbers;
