@@ -1,2 +1,4 @@
--- Lists of rule numbers, and what the cover list's call answers.
+-- Lists of rule numbers, the test for a dependent, and what the cover list's call answers.
 pub mod Numbers
+pub mod Depends
+pub mod Answers

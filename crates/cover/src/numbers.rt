@@ -1,9 +1,11 @@
 // Lists of rule numbers, by value.
 use records::layout;
 ghost use mathlib.Core.Path.{_≡_};
-ghost use Prim.Native.Nat.{_≤_, _<_};
-ghost use lib.ListN.{take};
+ghost use Prim.Native.Nat.{_*_, _≤_, _<_};
+ghost use lib.ListN.{length, take};
+ghost use Rattle.buffers.specs.Parts.{splice};
 ghost use Rattle.records.specs.Layout.{mostRules};
+ghost use Rattle.cover.specs.Answers.{numberBytes};
 ghost use Rattle.cover.specs.Numbers.{Lists, putIn};
 
 // The first `count` items are the list; what the others hold does not matter.
@@ -36,5 +38,19 @@ pub fn put_in(list: Numbers, at: usize, x: u16) -> Numbers
     Numbers {
         items,
         count: count + 1,
+    }
+}
+
+// Writes the list to the start of `out`, two bytes a number; every other byte stays.
+pub fn put_numbers(list: Numbers, out: &mut [u8])
+    requires { ⌜ (list .count ≤ mostRules) × (list .count ≤ length (list .items)) × (2 * list .count ≤ length (now out)) ⌝ }
+    ensures { λ _. ⌜ now (out .exit) ≡ splice 0 (numberBytes (take (list .count) (list .items))) (now (out .entry)) ⌝ }
+{
+    let items = list.items;
+    let count = list.count;
+    let mut i = 0;
+    while i < count {
+        buffers::put_be16(out, 2 * i, items[i]);
+        i += 1;
     }
 }

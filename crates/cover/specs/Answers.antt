@@ -1,0 +1,49 @@
+-- What the cover list's call answers, and what it leaves in the output. Assumes nothing.
+use mathlib.Core.Path.{_≡_}
+use mathlib.Core.Bool.{not}
+use mathlib.Core.List.{List}
+use mathlib.Core.Option.{Option, none, some}
+use Prim.Native.Nat.{ℕ, _*_}
+use lib.Dec.{ltb}
+use lib.ListN.{length}
+use Rattle.model.specs.Policy.{dependents}
+use Rattle.model.specs.Refusals.{shortOutput, noSuchRule}
+use Rattle.ternary.specs.Sizes.{keySize, positions}
+use Rattle.buffers.specs.Numbers.{toBe}
+use Rattle.buffers.specs.Parts.{splice, spelled}
+use Rattle.records.specs.Rules.{ruleCount, rules}
+use Rattle.checks.specs.Refusals.{orElse}
+use Rattle.checks.specs.declared.refusal.Refusal.{Refusal}
+use Rattle.policy.specs.Refusals.{need, policyRefusal}
+use Rattle.cover.specs.declared.CoverAnswer.{CoverAnswer}
+use Rattle.cover.specs.declared.CoverAnswer.the-variants.{Refused, Count}
+
+-- the dependents of the rule of that number, which are its cover list
+abbrev pub coverList : List ℕ → ℕ → List ℕ
+coverList policy number = dependents positions (rules keySize policy) number
+
+-- the numbers of a list, two bytes each
+abbrev pub numberBytes : List ℕ → List ℕ
+numberBytes xs = spelled (toBe 2) xs
+
+-- policy 1, 2, 3; 6; 5, where the output has so much room
+unfoldable pub coverRefusal : List ℕ → ℕ → ℕ → Option Refusal
+coverRefusal policy number room =
+    orElse (policyRefusal policy)
+    (need (ltb number (ruleCount keySize policy)) noSuchRule
+    (need (not (ltb room (2 * length (coverList policy number)))) shortOutput none))
+
+-- the refusal, or how many numbers were written
+abbrev pub answerOf : Option Refusal → ℕ → CoverAnswer
+answerOf (some r) n = Refused r
+answerOf none n = Count n
+
+-- the output, which a refusal leaves as it was
+abbrev pub outOf : Option Refusal → List ℕ → List ℕ → List ℕ
+outOf (some r) written out = out
+outOf none written out = splice 0 written out
+
+-- the answer, and the output after it: the numbers of the cover list at its start, every other byte as it was
+pub record Covered (policy : List ℕ) (number : ℕ) (out : List ℕ) (r : CoverAnswer) (out′ : List ℕ) : Type 0 where
+  pub answer : r ≡ answerOf (coverRefusal policy number (length out)) (length (coverList policy number))
+  pub written : out′ ≡ outOf (coverRefusal policy number (length out)) (numberBytes (coverList policy number)) out
