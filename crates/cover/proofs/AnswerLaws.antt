@@ -12,8 +12,6 @@ use borrow.Author.Tests.{lt-ltb, le-ltb, ltb-false}
 use Rattle.model.specs.Policy.{dependents, before}
 use Rattle.model.specs.Refusals.{ragged, tooMany, shortOutput, noSuchRule}
 use Rattle.model.proofs.Cases.{not-true}
-use Rattle.model.proofs.BelowLaws.{count-le}
-use Rattle.model.proofs.OrderLaws.{length-listed}
 use Rattle.ternary.specs.Sizes.{keySize}
 use Rattle.buffers.specs.Parts.{splice}
 use Rattle.records.specs.Layout.{ruleSize, mostRules}
@@ -26,10 +24,11 @@ use Rattle.policy.specs.Refusals.{need, flawRefusal, policyRefusal}
 use Rattle.policy.specs.Answers.{checkOf, checkAnswer}
 use Rattle.policy.specs.declared.PolicyAnswer.{PolicyAnswer}
 use Rattle.policy.specs.declared.PolicyAnswer.the-variants.{Refused as Bad, Rules}
-use Rattle.cover.specs.Numbers.{Lists}
+use Rattle.cover.specs.Numbers.{Lists, Under}
 use Rattle.cover.specs.Depends.{dependsOn}
 use Rattle.cover.specs.Answers.{coverList, numberBytes, coverRefusal, Covered}
 use Rattle.cover.specs.declared.CoverAnswer.the-variants.{Refused, Count}
+use Rattle.cover.proofs.ListLaws.{Gathered, gathered-few, gathered-under}
 
 -- ---- the policy's check
 
@@ -66,21 +65,20 @@ taken-of {policy} e t =
     let h = rules-of (policyRefusal policy) (ruleCount keySize policy) (sym e ∙ t) in
     record { fine = h .0; counted = h .1; few = fine-few policy (h .0) }
 
--- ---- the list is no longer than the policy
+-- ---- the list is no longer than the policy, and each of its numbers is that of a rule
+
+gathered : (policy : List ℕ) (number : ℕ) {items : List ℕ} {count : ℕ} → Lists items count (coverList policy number)
+    → Gathered (dependsOn (rules keySize policy) number) (before (rules keySize policy)) (length (rules keySize policy)) items count
+unfolding dependents
+gathered policy number is = record { so-far = is }
 
 pub cover-few : (policy : List ℕ) (number : ℕ) {items : List ℕ} {count : ℕ}
     → Lists items count (coverList policy number) → count ≤ ruleCount keySize policy
-unfolding dependents
-cover-few policy number {items} {count} is =
-    let pol = rules keySize policy in
-    let n : length (coverList policy number) ≡ count = rw (← is .same) (length-take-le count items (is .few)) in
-    omega (
-      arith,
-      n,
-      length-listed (dependsOn pol number) (before pol) (length pol),
-      count-le (dependsOn pol number) (length pol),
-      rule-count keySize policy,
-    )
+cover-few policy number is = omega (arith, gathered-few _ _ (gathered policy number is), rule-count keySize policy)
+
+pub cover-under : (policy : List ℕ) (number : ℕ) {items : List ℕ} {count : ℕ}
+    → Lists items count (coverList policy number) → Under (ruleCount keySize policy) items count
+cover-under policy number is = gathered-under _ _ (gathered policy number is) (omega (arith, rule-count keySize policy))
 
 -- ---- each way out
 
