@@ -20,7 +20,8 @@ use Rattle.records.proofs.RuleLaws.{rule-count}
 use Rattle.checks.specs.Refusals.{refusal}
 use Rattle.checks.specs.declared.refusal.Refusal.{Refusal}
 use Rattle.checks.specs.Flaws.{firstFlawed, ruleFlawAt}
-use Rattle.policy.specs.Refusals.{need, flawRefusal, policyRefusal}
+use Rattle.checks.specs.Refusals.{need}
+use Rattle.policy.specs.Refusals.{flawRefusal, policyRefusal}
 use Rattle.policy.specs.Answers.{checkOf, checkAnswer}
 use Rattle.policy.specs.declared.PolicyAnswer.{PolicyAnswer}
 use Rattle.policy.specs.declared.PolicyAnswer.the-variants.{Refused as Bad, Rules}

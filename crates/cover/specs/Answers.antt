@@ -12,9 +12,9 @@ use Rattle.ternary.specs.Sizes.{keySize, positions}
 use Rattle.buffers.specs.Numbers.{toBe}
 use Rattle.buffers.specs.Parts.{splice, spelled}
 use Rattle.records.specs.Rules.{ruleCount, rules}
-use Rattle.checks.specs.Refusals.{orElse}
+use Rattle.checks.specs.Refusals.{orElse, need}
 use Rattle.checks.specs.declared.refusal.Refusal.{Refusal}
-use Rattle.policy.specs.Refusals.{need, policyRefusal}
+use Rattle.policy.specs.Refusals.{policyRefusal}
 use Rattle.cover.specs.declared.CoverAnswer.{CoverAnswer}
 use Rattle.cover.specs.declared.CoverAnswer.the-variants.{Refused, Count}
 

@@ -9,8 +9,7 @@ use Rattle.buffers.specs.Parts.{chunk}
 use Rattle.records.specs.Layout.{ruleSize}
 use Rattle.records.specs.Rules.{ruleCount}
 use Rattle.checks.specs.declared.refusal.Refusal.{Refusal}
-use Rattle.checks.specs.Refusals.{orElse}
-use Rattle.checks.specs.Refusals.{need}
+use Rattle.checks.specs.Refusals.{orElse, need}
 use Rattle.policy.specs.Refusals.{policyRefusal, keyRefusal}
 use Rattle.policy.specs.Best.{bestFound}
 use Rattle.policy.specs.declared.BestFound.{BestFound}
