@@ -2,3 +2,4 @@
 pub mod Slots
 pub mod Refusals
 pub mod Structs
+pub mod Holding

@@ -1,0 +1,28 @@
+-- `slots::buffer::slots_fit` meets its contract: at each `return` the tests that led there decide. Assumes nothing.
+use borrow.Author.Needs.{needs}
+use mathlib.Core.Path.{_≡_}
+use mathlib.Core.Bool.{true, false}
+use borrow.Author.Tests.{eq-eqb, ne-eqb, le-leb, lt-leb}
+use Rattle.slots.specs.Refusals.{slotsFit}
+use Rattle.slots.proofs.buffer.slots_fit.Statement.{statement}
+use Rattle.slots.proofs.buffer.slots_fit.Tie as tie
+
+returns : tie.Need-returns
+unfolding slotsFit
+returns c = rw (ne-eqb _ _ (c .if1 .taken))
+
+returns-2 : tie.Need-returns-2
+unfolding slotsFit
+returns-2 c = rw (eq-eqb _ _ (c .before .if1 .left), lt-leb 1 _ (c .if2 .taken))
+
+returns-3 : tie.Need-returns-3
+unfolding slotsFit
+returns-3 c = rw (eq-eqb _ _ (c .before .if1 .left), le-leb 1 _ (c .if2 .left))
+
+pub slots-fit-spec : {M : Type 1} → statement M
+slots-fit-spec =
+    tie.close
+    (tie.spec
+    returns
+    returns-2
+    returns-3)
