@@ -5,7 +5,7 @@ use mathlib.Core.List.{List, [], _∷_, _++_, append-assoc, append-nil}
 use native.Mathlib.Omega.{arith}
 use native.Mathlib.Nat.{add-suc}
 use lib.ListN.{length, take, drop, getD, length-append, length-take, length-drop}
-use lib.Seq.{drop-cons, drop-length, take-all, take-take, take-at, drop-at, take-add, drop-drop, getD-drop}
+use lib.Seq.{drop-cons, drop-length, take-take, take-at, drop-at, take-add, drop-drop, getD-drop}
 use lib.Seq.{length-take-le, take-append-le, drop-append-le, drop-append-add}
 use Rattle.model.specs.Bits.{Bytes}
 use Rattle.buffers.specs.Parts.{part, splice}

@@ -1,6 +1,6 @@
 -- What a clean record is: its spare bytes are zero, and its value is 0 at every wildcard. For every width. Assumes nothing.
-use mathlib.Core.Path.{_≡_, refl, sym, ap, _∙_}
-use mathlib.Core.Bool.{true, false, cond}
+use mathlib.Core.Path.{_≡_, refl, ap}
+use mathlib.Core.Bool.{true, false}
 use mathlib.Core.List.{List, [], _∷_}
 use mathlib.Core.Option.{Option, none, some, Option·map}
 use mathlib.Core.Logic.{_↔_}
@@ -10,7 +10,7 @@ use lib.Dec.{ltb, eqb}
 use lib.ListN.{getD}
 use borrow.Author.Tests.{eqb-true, eq-eqb}
 use Rattle.model.specs.Below.{firstBelow}
-use Rattle.model.specs.Pattern.{canonical, firstStray}
+use Rattle.model.specs.Pattern.{canonical}
 use Rattle.model.proofs.Cases.{by-cases}
 use Rattle.model.proofs.OrderLaws.{foremost-none, first-missed}
 use Rattle.ternary.proofs.StrayLaws.{canonical-clean, clean-canonical}
@@ -20,7 +20,7 @@ use Rattle.checks.specs.Flaws.{Zeros, firstNonzero, strayIn, flawOf, isF
 use Rattle.checks.specs.Flaws.{ruleSpares, traceSpares, writeSpares, reportSpares, ruleFlaw, traceFlaw, writeFlaw, reportFlaw}
 use Rattle.checks.specs.declared.flaw.Flaw.{Flaw}
 use Rattle.checks.specs.declared.flaw.Flaw.the-variants.{Clean, Spare, Stray}
-use Rattle.checks.specs.declared.flaw.Checked.the-variants.{AllClean, Flawed}
+use Rattle.checks.specs.declared.flaw.Checked.the-variants.{AllClean}
 
 zeros-of : (ats c : List ℕ) → firstNonzero ats c ≡ none → Zeros ats c
 zeros-of [] c e = tt

@@ -44,7 +44,7 @@ pub fn check(policy: &[u8]) -> PolicyAnswer
 }
 
 // The priority of the i-th rule, read where it lies.
-fn rule_priority(policy: &[u8], i: usize) -> u16
+pub fn rule_priority(policy: &[u8], i: usize) -> u16
     requires { ⌜ i < ruleCount keySize (now policy) ⌝ }
     ensures { λ r. ⌜ r ≡ (ruleAt (rules keySize (now (policy .entry))) i) .priority ⌝ }
 {

@@ -3,7 +3,7 @@ use Prim.Native.Nat.{ℕ, _+_, _*_, _<_}
 use mathlib.Core.Path.{_≡_, refl, ap, _∙_}
 use mathlib.Core.List.{List, [], _∷_, _++_}
 use native.Mathlib.Omega.{arith}
-use lib.ListN.{length, take, drop, getD, length-append}
+use lib.ListN.{length, take, drop, getD}
 use Rattle.model.specs.Bits.{Bytes}
 use Rattle.model.specs.Pattern.{matches}
 use Rattle.model.specs.Policy.{Rule, ruleAt, ruleMatches}

@@ -2,19 +2,18 @@
 use mathlib.Core.Path.{_≡_, refl}
 use mathlib.Core.Bool.{Bool, true, false, _&&_}
 use mathlib.Core.List.{List}
-use mathlib.Core.Option.{Option, none, some}
+use mathlib.Core.Option.{none}
 use mathlib.Core.Logic.{_↔_}
-use Prim.Native.Nat.{ℕ, _*_, _%_, _≤_}
+use Prim.Native.Nat.{ℕ, _%_}
 use native.Mathlib.Omega.{arith}
 use lib.Dec.{leb, eqb}
 use lib.ListN.{length}
 use borrow.Author.Tests.{eqb-true, leb-true, eq-eqb, le-leb}
 use Rattle.model.specs.Refusals.{badSlots}
-use Rattle.model.proofs.Cases.{by-cases, and-left, and-right}
+use Rattle.model.proofs.Cases.{and-left, and-right}
 use Rattle.ternary.specs.Sizes.{keySize}
 use Rattle.records.specs.Layout.{slotSize, mostSlots}
 use Rattle.checks.specs.Refusals.{need}
-use Rattle.checks.specs.declared.refusal.Refusal.{Refusal}
 use Rattle.slots.specs.Slots.{slotCount}
 use Rattle.slots.specs.Refusals.{slotsFit, slotsRefusal, WholeSlots}
 

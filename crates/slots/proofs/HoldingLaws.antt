@@ -1,12 +1,11 @@
 -- The search for the first slot that takes a key, and what its answer says. Assumes nothing.
-use mathlib.Core.Path.{_≡_, refl, sym, ap, _∙_}
+use mathlib.Core.Path.{_≡_, refl, sym, ap}
 use mathlib.Core.Bool.{true, false}
 use mathlib.Core.List.{List}
 use mathlib.Core.Option.{Option, none, some}
 use Prim.Native.Nat.{ℕ, _+_, _*_, _≤_, _<_}
 use native.Mathlib.Omega.{arith}
 use lib.ListN.{length}
-use Rattle.model.specs.Records.{Slot}
 use Rattle.model.specs.Ends.{Key, holds, firstFor}
 use Rattle.model.proofs.BelowLaws.{Passed, passed-none, passed-more}
 use Rattle.model.proofs.OrderLaws.{first-found, first-missed}

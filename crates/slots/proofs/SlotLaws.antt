@@ -8,7 +8,7 @@ use lib.ListN.{length, take, drop, set, length-append}
 use Rattle.model.specs.Bits.{Bytes}
 use Rattle.model.specs.Records.{Slot, slotAt, cleared}
 use Rattle.buffers.specs.Numbers.{be, toBe}
-use Rattle.buffers.specs.Parts.{splice, spelled}
+use Rattle.buffers.specs.Parts.{spelled}
 use Rattle.buffers.proofs.PartLaws.{length-splice}
 use Rattle.buffers.proofs.NumberLaws.{be-toBe}
 use Rattle.buffers.proofs.FieldLaws.{drop-past, part-past, byte-past, value-there, mask-there, after-rows, part-then, number-then, pair-last}

@@ -1,6 +1,6 @@
 -- `checks::flaw::first_flawed_rule` meets its contract: no record below i has a flaw. Assumes nothing.
 use borrow.Author.Needs.{needs}
-use mathlib.Core.Path.{_≡_, sym, _∙_}
+use mathlib.Core.Path.{sym, _∙_}
 use Prim.Native.Nat.{_≤_, _-_}
 use native.Mathlib.Nat.{add-sub-cancel-left}
 use Rattle.ternary.specs.Sizes.{keySize}

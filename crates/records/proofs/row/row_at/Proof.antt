@@ -1,6 +1,5 @@
 -- `records::row::row_at` meets its contract: the part fills the array. Assumes nothing.
 use borrow.Author.Needs.{needs}
-use native.Mathlib.Omega.{arith}
 use mathlib.Core.Path.{_∙_}
 use native.Mathlib.Nat.{add-sub-cancel-left}
 use Rattle.buffers.specs.Parts.{part}

@@ -1,7 +1,4 @@
 -- `slots::buffer::slots_fit` meets its contract: at each `return` the tests that led there decide. Assumes nothing.
-use borrow.Author.Needs.{needs}
-use mathlib.Core.Path.{_≡_}
-use mathlib.Core.Bool.{true, false}
 use borrow.Author.Tests.{eq-eqb, ne-eqb, le-leb, lt-leb}
 use Rattle.slots.specs.Refusals.{slotsFit}
 use Rattle.slots.proofs.buffer.slots_fit.Statement.{statement}

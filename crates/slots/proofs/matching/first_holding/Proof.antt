@@ -1,6 +1,6 @@
 -- `slots::matching::first_holding` meets its contract: no slot below i takes the key. Assumes nothing.
 use borrow.Author.Needs.{needs}
-use mathlib.Core.Path.{_≡_, sym, _∙_}
+use mathlib.Core.Path.{sym, _∙_}
 use Prim.Native.Nat.{_≤_, _-_}
 use Rattle.ternary.specs.Sizes.{keySize}
 use Rattle.slots.proofs.HoldingLaws.{Unheld, unheld-none, unheld-more, held-here, held-nowhere}
