@@ -1,0 +1,118 @@
+-- What the tests of the call that isolates come to: each way out, and what is known where the rule is isolated. Assumes nothing.
+use mathlib.Core.Path.{_≡_, refl, sym, ap, _∙_}
+use mathlib.Core.Bool.{Bool, true, false}
+use mathlib.Core.List.{List}
+use mathlib.Core.Option.{Option, none, some}
+use mathlib.Core.Logic.{_≢_}
+use Prim.Native.Nat.{ℕ, _≤_, _<_}
+use native.Mathlib.Omega.{arith}
+use lib.Dec.{ltb, eqb}
+use lib.ListN.{length}
+use borrow.Author.Tests.{lt-ltb, le-ltb, ltb-true, eqb-true, eq-eqb, ne-eqb}
+use Rattle.model.specs.Policy.{Rule, best}
+use Rattle.model.specs.Refusals.{ragged, noSuchRule, notBest}
+use Rattle.model.proofs.Cases.{clash}
+use Rattle.ternary.specs.Sizes.{keySize, positions}
+use Rattle.records.specs.Rules.{ruleCount, rules}
+use Rattle.checks.specs.Refusals.{refusal, orElse}
+use Rattle.checks.specs.declared.refusal.Refusal.{Refusal}
+use Rattle.checks.specs.Refusals.{need}
+use Rattle.policy.specs.Refusals.{policyRefusal, keyRefusal}
+use Rattle.policy.specs.Best.{foundOf, bestFound}
+use Rattle.policy.specs.declared.BestFound.{BestFound}
+use Rattle.policy.specs.declared.BestFound.the-variants.{NoRule, Rule as Found}
+use Rattle.policy.proofs.CheckLaws.{passed-few}
+use Rattle.isolate.specs.Ready.{Ready}
+use Rattle.isolate.specs.Answers.{isBest, isolateRefusal, saidOf}
+use Rattle.isolate.specs.declared.Said.{Said}
+use Rattle.isolate.specs.declared.Said.the-variants.{Refused, Isolated}
+
+found-none : (pol : List Rule) (o : Option ℕ) → foundOf pol o ≡ NoRule → o ≡ none
+found-none pol none e = refl
+found-none pol (some i) e = let z : _≡_ {A = ℕ} 0 1 = cc in absurd (omega arith)
+
+found-some : (pol : List Rule) (o : Option ℕ) (i a : ℕ) → foundOf pol o ≡ Found i a → o ≡ some i
+found-some pol none i a e = let z : _≡_ {A = ℕ} 0 1 = cc in absurd (omega arith)
+found-some pol (some j) i a e = cc
+
+-- ---- each way out
+
+module _ (policy key : List ℕ) (number : ℕ) where
+  abbrev says : Said → Type 0
+  says r = r ≡ saidOf (isolateRefusal policy key number)
+
+  pub said-policy : (r : Refusal) → policyRefusal policy ≡ some r → says (Refused r)
+  unfolding isolateRefusal
+  said-policy r e = rw e
+
+  module _ (fine : policyRefusal policy ≡ none) where
+    pub said-key : length key ≢ keySize → says (Refused (refusal ragged 0))
+    unfolding isolateRefusal keyRefusal
+    said-key h = rw (fine, ne-eqb _ _ h)
+
+    module _ (long : length key ≡ keySize) where
+      pub said-number : ruleCount keySize policy ≤ number → says (Refused (refusal noSuchRule 0))
+      unfolding isolateRefusal keyRefusal
+      said-number h = rw (fine, eq-eqb _ _ long, le-ltb _ _ h)
+
+      -- the key's best rule, as it was found
+      module _ (low : number < ruleCount keySize policy) (b : BestFound) (e : b ≡ bestFound policy key) where
+        pub said-none : b ≡ NoRule → says (Refused (refusal notBest 0))
+        unfolding isolateRefusal keyRefusal bestFound
+        said-none t = rw (fine, eq-eqb _ _ long, lt-ltb _ _ low, found-none (rules keySize policy) (best positions (rules keySize policy) key) (sym e ∙ t))
+
+        pub said-other : (i a : ℕ) → b ≡ Found i a → i ≢ number → says (Refused (refusal notBest 0))
+        unfolding isolateRefusal keyRefusal bestFound
+        said-other i a t h = rw (fine, eq-eqb _ _ long, lt-ltb _ _ low, found-some (rules keySize policy) (best positions (rules keySize policy) key) i a (sym e ∙ t), ne-eqb i number h)
+
+        pub said-isolated : (i a : ℕ) → b ≡ Found i a → i ≡ number → says Isolated
+        unfolding isolateRefusal keyRefusal bestFound
+        said-isolated i a t h = rw (fine, eq-eqb _ _ long, lt-ltb _ _ low, found-some (rules keySize policy) (best positions (rules keySize policy) key) i a (sym e ∙ t), eq-eqb i number h)
+
+-- ---- where the rule is isolated
+
+said-refused-of : (o : Option Refusal) (r : Refusal) → Refused r ≡ saidOf o → o ≡ some r
+said-refused-of (some x) r e = cc
+said-refused-of none r e = let z : _≡_ {A = ℕ} 0 1 = cc in absurd (omega arith)
+
+said-isolated-of : (o : Option Refusal) → Isolated ≡ saidOf o → o ≡ none
+said-isolated-of (some x) e = let z : _≡_ {A = ℕ} 0 1 = cc in absurd (omega arith)
+said-isolated-of none e = refl
+
+none-first : (o later : Option Refusal) → orElse o later ≡ none → (o ≡ none) × (later ≡ none)
+none-first (some x) later e = let z : _≡_ {A = ℕ} 0 1 = cc in absurd (omega arith)
+none-first none later e = (refl, e)
+
+need-none : (b : Bool) (number : ℕ) (later : Option Refusal) → need b number later ≡ none → (b ≡ true) × (later ≡ none)
+need-none true number later e = (refl, e)
+need-none false number later e = let z : _≡_ {A = ℕ} 0 1 = cc in absurd (omega arith)
+
+best-is : (o : Option ℕ) (number : ℕ) → isBest o number ≡ true → o ≡ some number
+best-is none number e = clash e refl
+best-is (some i) number e = ap some (eqb-true i number e)
+
+pub policy-fine : (policy key : List ℕ) (number : ℕ) → isolateRefusal policy key number ≡ none → policyRefusal policy ≡ none
+unfolding isolateRefusal
+policy-fine policy key number e = none-first (policyRefusal policy) _ e .0
+
+module _ (policy key : List ℕ) (number : ℕ) (s : Said) (e : s ≡ saidOf (isolateRefusal policy key number)) where
+  pub refused-as : (r : Refusal) → s ≡ Refused r → isolateRefusal policy key number ≡ some r
+  refused-as r t = said-refused-of (isolateRefusal policy key number) r (sym t ∙ e)
+
+  pub isolated-as : s ≡ Isolated → isolateRefusal policy key number ≡ none
+  isolated-as t = said-isolated-of (isolateRefusal policy key number) (sym t ∙ e)
+
+  pub ready : s ≡ Isolated → Ready policy key number
+  unfolding isolateRefusal keyRefusal
+  ready t =
+      let p = none-first (policyRefusal policy) _ (isolated-as t) in
+      let k = none-first (keyRefusal key) _ (p .1) in
+      let n = need-none (ltb number (ruleCount keySize policy)) noSuchRule _ (k .1) in
+      let b = need-none (isBest (best positions (rules keySize policy) key) number) notBest none (n .1) in
+      let long : length key ≡ keySize = eqb-true _ _ (need-none (eqb (length key) keySize) ragged none (k .0) .0) in
+      record {
+        low = ltb-true _ _ (n .0);
+        few = passed-few policy (p .0);
+        long = long;
+        is-best = best-is _ number (b .0);
+      }
