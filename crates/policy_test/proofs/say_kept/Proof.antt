@@ -1,0 +1,27 @@
+-- `policy_test::say_kept` is safe and ends: i is at most the length. Assumes nothing.
+use borrow.Author.Needs.{needs}
+use Prim.Native.Nat.{_≤_, _-_}
+use lib.ListN.{length}
+use Rattle.policy_test.proofs.say_kept.Statement.{statement}
+use Rattle.policy_test.proofs.say_kept.Tie as tie
+
+abbrev Inv-loop : tie.InvT-loop
+Inv-loop out n i₀ i = i ≤ length out
+
+abbrev μ-loop : tie.MeasureT-loop
+μ-loop out n i₀ i = length out - i
+
+pub say-kept-spec : {M : Type 1} → statement M
+say-kept-spec =
+    tie.close
+    (tie.spec
+    Inv-loop
+    μ-loop
+    (λ c. search needs)
+    (λ c. search needs)
+    (λ c. search needs)
+    (λ c. search needs)
+    (λ c. search needs)
+    (λ c. search needs)
+    (λ c. search needs)
+    (λ c. search needs))
