@@ -1,0 +1,2 @@
+-- The small policy's cases, over its 96 bytes.
+pub mod Cases
