@@ -22,7 +22,7 @@ use Rattle.policy.specs.Best.{foundOf, bestFound}
 use Rattle.policy.specs.declared.BestFound.{BestFound}
 use Rattle.policy.specs.declared.BestFound.the-variants.{NoRule, Rule as Found}
 use Rattle.policy.proofs.CheckLaws.{passed-few}
-use Rattle.isolate.specs.Ready.{Ready}
+use Rattle.rounds.specs.Ready.{Ready}
 use Rattle.isolate.specs.Answers.{isBest, isolateRefusal, saidOf}
 use Rattle.isolate.specs.declared.Said.{Said}
 use Rattle.isolate.specs.declared.Said.the-variants.{Refused, Isolated}
@@ -59,15 +59,21 @@ module _ (policy key : List ℕ) (number : ℕ) where
       module _ (low : number < ruleCount keySize policy) (b : BestFound) (e : b ≡ bestFound policy key) where
         pub said-none : b ≡ NoRule → says (Refused (refusal notBest 0))
         unfolding isolateRefusal keyRefusal bestFound
-        said-none t = rw (fine, eq-eqb _ _ long, lt-ltb _ _ low, found-none (rules keySize policy) (best positions (rules keySize policy) key) (sym e ∙ t))
+        said-none t =
+            let is : best positions (rules keySize policy) key ≡ none = found-none (rules keySize policy) _ (sym e ∙ t) in
+            rw (fine, eq-eqb _ _ long, lt-ltb _ _ low, is)
 
         pub said-other : (i a : ℕ) → b ≡ Found i a → i ≢ number → says (Refused (refusal notBest 0))
         unfolding isolateRefusal keyRefusal bestFound
-        said-other i a t h = rw (fine, eq-eqb _ _ long, lt-ltb _ _ low, found-some (rules keySize policy) (best positions (rules keySize policy) key) i a (sym e ∙ t), ne-eqb i number h)
+        said-other i a t h =
+            let is : best positions (rules keySize policy) key ≡ some i = found-some (rules keySize policy) _ i a (sym e ∙ t) in
+            rw (fine, eq-eqb _ _ long, lt-ltb _ _ low, is, ne-eqb i number h)
 
         pub said-isolated : (i a : ℕ) → b ≡ Found i a → i ≡ number → says Isolated
         unfolding isolateRefusal keyRefusal bestFound
-        said-isolated i a t h = rw (fine, eq-eqb _ _ long, lt-ltb _ _ low, found-some (rules keySize policy) (best positions (rules keySize policy) key) i a (sym e ∙ t), eq-eqb i number h)
+        said-isolated i a t h =
+            let is : best positions (rules keySize policy) key ≡ some i = found-some (rules keySize policy) _ i a (sym e ∙ t) in
+            rw (fine, eq-eqb _ _ long, lt-ltb _ _ low, is, eq-eqb i number h)
 
 -- ---- where the rule is isolated
 

@@ -1,6 +1,3 @@
--- Laws of what separates, of lists at the front of an array, and of the rounds.
-pub mod SeparateLaws
-pub mod StandingLaws
-pub mod RoundsLaws
+-- What the call's tests come to, and what its answer promises.
 pub mod AnswerLaws
 pub mod Promise

@@ -1,5 +1,3 @@
--- What the contracts on isolating cite, above the model.
-pub mod Ready
-pub mod Structs
+-- What the call that isolates answers, and what that promises.
 pub mod Answers
 pub mod Promise

@@ -4,11 +4,8 @@ use checks::refusal::Refusal;
 use records::layout;
 ghost use mathlib.Core.Path.{_≡_};
 ghost use Rattle.checks.specs.Refusals.{refusal as refusalAt};
-ghost use Rattle.isolate.specs.Structs.{asIsolated};
+ghost use Rattle.rounds.specs.Structs.{asIsolated};
 ghost use Rattle.isolate.specs.Answers.{isolateRefusal, isolateAnswer, saidOf, refusedAnswer, isolatedAnswer};
-
-pub mod rounds;
-mod separate;
 
 // Why a rule is not isolated, or that it is.
 pub enum Said {

@@ -1,4 +1,4 @@
--- `isolate::separate::separated` meets its contract: n of the first i items are separated. Assumes nothing.
+-- `rounds::separate::separated` meets its contract: n of the first i items are separated. Assumes nothing.
 use borrow.Author.Needs.{needs}
 use mathlib.Core.Path.{_≡_}
 use mathlib.Core.Logic.{⊎-elim}
@@ -10,9 +10,9 @@ use Rattle.model.specs.Isolate.{separates}
 use Rattle.ternary.specs.Sizes.{keySize}
 use Rattle.records.specs.Layout.{mostRules}
 use Rattle.records.specs.Rules.{rules}
-use Rattle.isolate.proofs.StandingLaws.{count-kept, count-passed}
-use Rattle.isolate.proofs.separate.separated.Statement.{statement}
-use Rattle.isolate.proofs.separate.separated.Tie as tie
+use Rattle.rounds.proofs.StandingLaws.{count-kept, count-passed}
+use Rattle.rounds.proofs.separate.separated.Statement.{statement}
+use Rattle.rounds.proofs.separate.separated.Tie as tie
 
 abbrev Inv-loop : tie.InvT-loop
 Inv-loop policy key number p standing items n₀ i₀ n i =

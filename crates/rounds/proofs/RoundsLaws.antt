@@ -21,8 +21,8 @@ use Rattle.model.proofs.PolicyLaws.{dependent-iff}
 use Rattle.model.proofs.RoundLaws.{fewer}
 use Rattle.model.proofs.IsolateLaws.{Rounds, rounds-start, rounds-next, resume, resume-start, resume-round, resume-stop}
 use Rattle.cover.specs.Numbers.{Lists, Under}
-use Rattle.isolate.specs.Structs.{PatternOf}
-use Rattle.isolate.proofs.StandingLaws.{elem-at}
+use Rattle.rounds.specs.Structs.{PatternOf}
+use Rattle.rounds.proofs.StandingLaws.{elem-at}
 
 -- ---- the scan: positions below p were seen, none of them is above `most`, and `best` is the first that reaches it
 pub record Scan (f : ℕ → ℕ) (n p best most : ℕ) : Type 0 where

@@ -1,12 +1,12 @@
--- `isolate::separate::bit_at` meets its contract: a mask of 1 takes the lowest bit. Assumes nothing.
+-- `rounds::separate::bit_at` meets its contract: a mask of 1 takes the lowest bit. Assumes nothing.
 use borrow.Author.Needs.{needs}
 use mathlib.Core.Path.{_∙_}
 use lib.Bits.{and-mask}
 use Rattle.model.specs.Bits.{digit}
 use Rattle.ternary.specs.Sizes.{keySize}
-use Rattle.isolate.proofs.SeparateLaws.{bit-there}
-use Rattle.isolate.proofs.separate.bit_at.Statement.{statement}
-use Rattle.isolate.proofs.separate.bit_at.Tie as tie
+use Rattle.rounds.proofs.SeparateLaws.{bit-there}
+use Rattle.rounds.proofs.separate.bit_at.Statement.{statement}
+use Rattle.rounds.proofs.separate.bit_at.Tie as tie
 
 returns : tie.Need-returns
 unfolding digit

@@ -1,7 +1,7 @@
--- `isolate::rounds::with_counts` meets its contract. Assumes nothing.
+-- `rounds::with_counts` meets its contract. Assumes nothing.
 use borrow.Author.Needs.{needs}
-use Rattle.isolate.proofs.rounds.with_counts.Statement.{statement}
-use Rattle.isolate.proofs.rounds.with_counts.Tie as tie
+use Rattle.rounds.proofs.with_counts.Statement.{statement}
+use Rattle.rounds.proofs.with_counts.Tie as tie
 
 returns : tie.Need-returns
 returns c = rw (c .wildcard-bits .ensures)

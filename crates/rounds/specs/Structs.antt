@@ -6,7 +6,7 @@ use Rattle.model.specs.Pattern.{wildcards}
 use Rattle.model.specs.Policy.{Rule, ruleAt}
 use Rattle.model.specs.Isolate.{Isolated}
 use Rattle.ternary.specs.Sizes.{positions}
-use Rattle.isolate.specs.declared.rounds.Isolated.{Isolated as IsolatedStruct}
+use Rattle.rounds.specs.declared.Isolated.{Isolated as IsolatedStruct}
 
 abbrev pub asIsolated : IsolatedStruct → Isolated
 asIsolated x = record { value = x .value; mask = x .mask; fixedBits = x .fixed; wildcardsLeft = x .wildcards }

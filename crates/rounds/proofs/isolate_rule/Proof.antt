@@ -1,4 +1,4 @@
--- `isolate::rounds::isolate_rule` meets its contract: a turn of the rounds is a round of the model. Assumes nothing.
+-- `rounds::isolate_rule` meets its contract: a turn of the rounds is a round of the model. Assumes nothing.
 use borrow.Author.Needs.{needs}
 use mathlib.Core.Path.{_≡_, _∙_}
 use mathlib.Core.Logic.{⊎-elim}
@@ -12,10 +12,10 @@ use Rattle.records.specs.Layout.{mostRules}
 use Rattle.records.specs.Rules.{ruleCount, rules}
 use Rattle.records.proofs.RuleLaws.{rule-count}
 use Rattle.cover.specs.Numbers.{Under}
-use Rattle.isolate.proofs.RoundsLaws.{Scan, scan-none, scan-taken, scan-kept, scan-chosen}
-use Rattle.isolate.proofs.RoundsLaws.{Going, going-start, going-under, going-room, going-stop, going-less, going-next}
-use Rattle.isolate.proofs.rounds.isolate_rule.Statement.{statement}
-use Rattle.isolate.proofs.rounds.isolate_rule.Tie as tie
+use Rattle.rounds.proofs.RoundsLaws.{Scan, scan-none, scan-taken, scan-kept, scan-chosen}
+use Rattle.rounds.proofs.RoundsLaws.{Going, going-start, going-under, going-room, going-stop, going-less, going-next}
+use Rattle.rounds.proofs.isolate_rule.Statement.{statement}
+use Rattle.rounds.proofs.isolate_rule.Tie as tie
 
 abbrev Inv-loop : tie.InvT-loop
 Inv-loop policy key number pattern standing fixed best₀ most₀ p₀ best most p =

@@ -14,8 +14,10 @@ ghost use Rattle.model.specs.Policy.{best, dependents};
 ghost use Rattle.ternary.specs.Sizes.{keySize, positions};
 ghost use Rattle.records.specs.Rules.{ruleCount, rules};
 ghost use Rattle.cover.specs.Numbers.{Lists};
-ghost use Rattle.isolate.specs.Ready.{Ready};
-ghost use Rattle.isolate.specs.Structs.{asIsolated, withCounts, PatternOf};
+ghost use Rattle.rounds.specs.Ready.{Ready};
+ghost use Rattle.rounds.specs.Structs.{asIsolated, withCounts, PatternOf};
+
+mod separate;
 
 // A rule isolated for a key: the pattern, the number of fixed bits, and the wildcard bits left.
 pub struct Isolated {

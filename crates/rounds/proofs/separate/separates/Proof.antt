@@ -1,9 +1,9 @@
--- `isolate::separate::separates` meets its contract: the tests at each `return` are those of the definition. Assumes nothing.
+-- `rounds::separate::separates` meets its contract: the tests at each `return` are those of the definition. Assumes nothing.
 use borrow.Author.Needs.{needs}
 use Rattle.ternary.specs.Sizes.{keySize}
-use Rattle.isolate.proofs.SeparateLaws.{not-wildcard, not-exact, differs}
-use Rattle.isolate.proofs.separate.separates.Statement.{statement}
-use Rattle.isolate.proofs.separate.separates.Tie as tie
+use Rattle.rounds.proofs.SeparateLaws.{not-wildcard, not-exact, differs}
+use Rattle.rounds.proofs.separate.separates.Statement.{statement}
+use Rattle.rounds.proofs.separate.separates.Tie as tie
 
 returns : tie.Need-returns
 returns c =

@@ -1,10 +1,10 @@
--- `isolate::rounds::rule_pattern` meets its contract: the rows are read where they lie. Assumes nothing.
+-- `rounds::rule_pattern` meets its contract: the rows are read where they lie. Assumes nothing.
 use borrow.Author.Needs.{needs}
 use mathlib.Core.Path.{sym, _∙_}
 use Rattle.ternary.specs.Sizes.{keySize}
-use Rattle.isolate.proofs.SeparateLaws.{value-there, mask-there}
-use Rattle.isolate.proofs.rounds.rule_pattern.Statement.{statement}
-use Rattle.isolate.proofs.rounds.rule_pattern.Tie as tie
+use Rattle.rounds.proofs.SeparateLaws.{value-there, mask-there}
+use Rattle.rounds.proofs.rule_pattern.Statement.{statement}
+use Rattle.rounds.proofs.rule_pattern.Tie as tie
 
 returns : tie.Need-returns
 returns c =

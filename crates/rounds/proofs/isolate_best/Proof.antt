@@ -1,11 +1,11 @@
--- `isolate::rounds::isolate_best` meets its contract: the row is the whole key. Assumes nothing.
+-- `rounds::isolate_best` meets its contract: the row is the whole key. Assumes nothing.
 use borrow.Author.Needs.{needs}
 use mathlib.Core.Path.{_≡_, _∙_}
 use native.Mathlib.Omega.{arith}
 use lib.Seq.{take-all}
 use Rattle.ternary.specs.Sizes.{keySize}
-use Rattle.isolate.proofs.rounds.isolate_best.Statement.{statement}
-use Rattle.isolate.proofs.rounds.isolate_best.Tie as tie
+use Rattle.rounds.proofs.isolate_best.Statement.{statement}
+use Rattle.rounds.proofs.isolate_best.Tie as tie
 
 -- the row that is read is the key
 whole : (c : tie.After-row-at) → c .row-at .result ≡ c .before .before .before .args .key .now
