@@ -1,6 +1,6 @@
 -- What the tests of the call that isolates come to: each way out, and what is known where the rule is isolated. Assumes nothing.
 use mathlib.Core.Path.{_≡_, refl, sym, ap, _∙_}
-use mathlib.Core.Bool.{Bool, true, false}
+use mathlib.Core.Bool.{true}
 use mathlib.Core.List.{List}
 use mathlib.Core.Option.{Option, none, some}
 use mathlib.Core.Logic.{_≢_}
@@ -14,9 +14,9 @@ use Rattle.model.specs.Refusals.{ragged, noSuchRule, notBest}
 use Rattle.model.proofs.Cases.{clash}
 use Rattle.ternary.specs.Sizes.{keySize, positions}
 use Rattle.records.specs.Rules.{ruleCount, rules}
-use Rattle.checks.specs.Refusals.{refusal, orElse}
+use Rattle.checks.specs.Refusals.{refusal}
 use Rattle.checks.specs.declared.refusal.Refusal.{Refusal}
-use Rattle.checks.specs.Refusals.{need}
+use Rattle.checks.proofs.RefusalLaws.{none-first, need-none}
 use Rattle.policy.specs.Refusals.{policyRefusal, keyRefusal}
 use Rattle.policy.specs.Best.{foundOf, bestFound}
 use Rattle.policy.specs.declared.BestFound.{BestFound}
@@ -84,14 +84,6 @@ said-refused-of none r e = let z : _≡_ {A = ℕ} 0 1 = cc in absurd (omega ari
 said-isolated-of : (o : Option Refusal) → Isolated ≡ saidOf o → o ≡ none
 said-isolated-of (some x) e = let z : _≡_ {A = ℕ} 0 1 = cc in absurd (omega arith)
 said-isolated-of none e = refl
-
-none-first : (o later : Option Refusal) → orElse o later ≡ none → (o ≡ none) × (later ≡ none)
-none-first (some x) later e = let z : _≡_ {A = ℕ} 0 1 = cc in absurd (omega arith)
-none-first none later e = (refl, e)
-
-need-none : (b : Bool) (number : ℕ) (later : Option Refusal) → need b number later ≡ none → (b ≡ true) × (later ≡ none)
-need-none true number later e = (refl, e)
-need-none false number later e = let z : _≡_ {A = ℕ} 0 1 = cc in absurd (omega arith)
 
 best-is : (o : Option ℕ) (number : ℕ) → isBest o number ≡ true → o ≡ some number
 best-is none number e = clash e refl

@@ -1,8 +1,7 @@
 -- A policy is not refused where its bytes are those of an accepted policy, and in no other case. Assumes nothing.
 use mathlib.Core.Path.{_≡_, refl, sym, _∙_}
-use mathlib.Core.Bool.{Bool, true, false}
 use mathlib.Core.List.{List}
-use mathlib.Core.Option.{Option, none}
+use mathlib.Core.Option.{none}
 use mathlib.Core.Logic.{_↔_}
 use Prim.Native.Nat.{ℕ, _*_, _%_, _≤_, _<_}
 use native.Mathlib.Omega.{arith}
@@ -18,18 +17,12 @@ use Rattle.records.specs.Layout.{ruleValue, ruleMask, ruleSize, mostRules}
 use Rattle.records.specs.Rules.{decodeRule, ruleCount, rules}
 use Rattle.records.proofs.RuleLaws.{rule-count, rule-at}
 use Rattle.checks.specs.Flaws.{ruleFlawAt}
-use Rattle.checks.specs.declared.refusal.Refusal.{Refusal}
 use Rattle.checks.specs.declared.flaw.Flaw.the-variants.{Clean}
 use Rattle.checks.specs.declared.flaw.Checked.{Checked}
 use Rattle.checks.specs.declared.flaw.Checked.the-variants.{AllClean, Flawed}
 use Rattle.checks.proofs.CleanLaws.{rule-clean, all-clean}
-use Rattle.checks.specs.Refusals.{need}
+use Rattle.checks.proofs.RefusalLaws.{need-none}
 use Rattle.policy.specs.Refusals.{flawRefusal, policyRefusal, AcceptedBytes}
-
--- no refusal: the test passes, and the later ones do
-pub need-none : (b : Bool) (number : ℕ) (later : Option Refusal) → need b number later ≡ none → (b ≡ true) × (later ≡ none)
-need-none true number later e = (refl, e)
-need-none false number later e = let z : _≡_ {A = ℕ} 0 1 = cc in absurd (omega arith)
 
 flaw-none : (x : Checked) → flawRefusal x ≡ none → x ≡ AllClean
 flaw-none AllClean e = refl

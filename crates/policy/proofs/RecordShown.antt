@@ -12,7 +12,7 @@ use Rattle.checks.specs.declared.refusal.Refusal.{Refusal}
 use Rattle.policy.specs.Refusals.{policyRefusal}
 use Rattle.policy.specs.Answers.{recordRefusal, recordOf, recordAnswer}
 use Rattle.policy.specs.declared.RecordAnswer.the-variants.{Refused, Shown}
-use Rattle.policy.proofs.Acceptance.{need-none}
+use Rattle.checks.proofs.RefusalLaws.{need-none}
 
 of-refused : (o : Option Refusal) (r : Refusal) → Refused r ≡ recordOf o → o ≡ some r
 of-refused (some x) r e = cc

@@ -59,14 +59,27 @@ pub rule-at : (w : ℕ) (bs : List ℕ) (i : ℕ) → i < ruleCount w bs → rul
 unfolding rules ruleAt
 rule-at w bs i l = records-at (ruleSize w) (decodeRule w) _ (ruleCount w bs) bs i l
 
--- its rows, where they lie in the policy
-pub rule-in-place : (w : ℕ) (bs key : List ℕ) (i : ℕ) → i < ruleCount w bs
-    → matches (w * 8) (part w (ruleSize w * i + ruleValue) bs) (part w (ruleSize w * i + ruleMask w) bs) key
-    ≡ ruleMatches (w * 8) (rules w bs) key i
-unfolding ruleMatches decodeRule
-rule-in-place w bs key i l =
-    rw (
-      rule-at w bs i l,
-      part-part w ruleValue (ruleSize w) (ruleSize w * i) bs (omega arith),
-      part-part w (ruleMask w) (ruleSize w) (ruleSize w * i) bs (omega arith),
-    )
+-- its fields, where they lie in the policy
+module _ (w : ℕ) (bs : List ℕ) (i : ℕ) (l : i < ruleCount w bs) where
+  pub value-in-place : (ruleAt (rules w bs) i) .value ≡ part w (ruleSize w * i + ruleValue) bs
+  unfolding decodeRule
+  value-in-place = rw (rule-at w bs i l) (part-part w ruleValue (ruleSize w) (ruleSize w * i) bs (omega arith))
+
+  pub mask-in-place : (ruleAt (rules w bs) i) .mask ≡ part w (ruleSize w * i + ruleMask w) bs
+  unfolding decodeRule
+  mask-in-place = rw (rule-at w bs i l) (part-part w (ruleMask w) (ruleSize w) (ruleSize w * i) bs (omega arith))
+
+  pub priority-in-place : (ruleAt (rules w bs) i) .priority ≡ be (part 2 (ruleSize w * i + rulePriority w) bs)
+  unfolding decodeRule
+  priority-in-place = rw (rule-at w bs i l, part-part 2 (rulePriority w) (ruleSize w) (ruleSize w * i) bs (omega arith))
+
+  pub action-in-place : (ruleAt (rules w bs) i) .action ≡ be (part 2 (ruleSize w * i + ruleAction w) bs)
+  unfolding decodeRule
+  action-in-place = rw (rule-at w bs i l, part-part 2 (ruleAction w) (ruleSize w) (ruleSize w * i) bs (omega arith))
+
+  -- so its rows are matched there
+  pub rule-in-place : (key : List ℕ)
+      → matches (w * 8) (part w (ruleSize w * i + ruleValue) bs) (part w (ruleSize w * i + ruleMask w) bs) key
+      ≡ ruleMatches (w * 8) (rules w bs) key i
+  unfolding ruleMatches
+  rule-in-place key = rw (value-in-place, mask-in-place)

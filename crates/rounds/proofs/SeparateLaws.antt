@@ -13,10 +13,9 @@ use Rattle.model.specs.Pattern.{exactAt, sameAt}
 use Rattle.model.specs.Policy.{ruleAt}
 use Rattle.model.specs.Isolate.{separates}
 use Rattle.buffers.specs.Parts.{part}
-use Rattle.buffers.proofs.PartLaws.{part-part}
 use Rattle.records.specs.Layout.{ruleValue, ruleMask, ruleSize}
-use Rattle.records.specs.Rules.{decodeRule, ruleCount, rules}
-use Rattle.records.proofs.RuleLaws.{rule-at}
+use Rattle.records.specs.Rules.{ruleCount, rules}
+use Rattle.records.proofs.RuleLaws.{value-in-place, mask-in-place}
 
 -- a bit of a row of w bytes that begins at `at`
 pub bit-there : (w at p : ℕ) (s : List ℕ) → p < w * 8 → bitOf (getD s (at + p / 8) 0) (p % 8) ≡ bitAt (part w at s) p
@@ -25,26 +24,16 @@ bit-there w at p s h =
     let l : p / 8 < w = omega arith in
     rw (getD-take, getD-drop)
 
--- the rows of a rule
-module _ (w : ℕ) (bs : List ℕ) (i : ℕ) (l : i < ruleCount w bs) where
-  pub value-there : (ruleAt (rules w bs) i) .value ≡ part w (ruleSize w * i + ruleValue) bs
-  unfolding decodeRule
-  value-there = rw (rule-at w bs i l) (part-part w ruleValue (ruleSize w) (ruleSize w * i) bs (omega arith))
-
-  pub mask-there : (ruleAt (rules w bs) i) .mask ≡ part w (ruleSize w * i + ruleMask w) bs
-  unfolding decodeRule
-  mask-there = rw (rule-at w bs i l) (part-part w (ruleMask w) (ruleSize w) (ruleSize w * i) bs (omega arith))
-
 -- the three tests of the code: x is the rule's mask bit, y and z the dependent's mask and value bits, q the key's bit
 module _ (w : ℕ) (bs key : List ℕ) (i p d : ℕ) (li : i < ruleCount w bs) (ld : d < ruleCount w bs) where
   pub not-wildcard : (x : ℕ) → x ≡ bitAt (part w (ruleSize w * i + ruleMask w) bs) p → x ≡ 1 → false ≡ separates (rules w bs) key i p d
   unfolding separates exactAt
-  not-wildcard x e t = rw (mask-there w bs i li, eq-eqb _ _ (sym e ∙ t))
+  not-wildcard x e t = rw (mask-in-place w bs i li, eq-eqb _ _ (sym e ∙ t))
 
   pub not-exact : (y : ℕ) → y ≡ bitAt (part w (ruleSize w * d + ruleMask w) bs) p → (y ≡ 1 → ⊥)
       → false ≡ separates (rules w bs) key i p d
   unfolding separates exactAt
-  not-exact y e t = rw (mask-there w bs d ld, ne-eqb _ _ (λ h. t (e ∙ h))) (sym (and-false (not (exactAt ((ruleAt (rules w bs) i) .mask) p))))
+  not-exact y e t = rw (mask-in-place w bs d ld, ne-eqb _ _ (λ h. t (e ∙ h))) (sym (and-false (not (exactAt ((ruleAt (rules w bs) i) .mask) p))))
 
   pub differs : (x y z q : ℕ)
       → x ≡ bitAt (part w (ruleSize w * i + ruleMask w) bs) p → (x ≡ 1 → ⊥)
@@ -54,9 +43,9 @@ module _ (w : ℕ) (bs key : List ℕ) (i p d : ℕ) (li : i < ruleCount w bs) (
   unfolding separates exactAt sameAt
   differs x y z q ex tx ey ty ez eq =
       rw (
-        mask-there w bs i li,
-        mask-there w bs d ld,
-        value-there w bs d ld,
+        mask-in-place w bs i li,
+        mask-in-place w bs d ld,
+        value-in-place w bs d ld,
         ne-eqb _ _ (λ h. tx (ex ∙ h)),
         eq-eqb _ _ (sym ey ∙ ty),
         ez,

@@ -1,14 +1,15 @@
 -- `policy::rule_action` meets its contract: the two bytes that are read are those of the rule's action. Assumes nothing.
 use borrow.Author.Needs.{needs}
-use mathlib.Core.Path.{_∙_}
-use Rattle.policy.proofs.InPlace.{action-in-place}
+use mathlib.Core.Path.{sym, _∙_}
+use Rattle.ternary.specs.Sizes.{keySize}
+use Rattle.records.proofs.RuleLaws.{action-in-place}
 use Rattle.policy.proofs.rule_action.Statement.{statement}
 use Rattle.policy.proofs.rule_action.Tie as tie
 
 returns : tie.Need-returns
 returns c =
     let k = c .before .before in
-    c .be16 .ensures ∙ action-in-place (k .args .policy .now) (k .args .i) (k .pre)
+    c .be16 .ensures ∙ sym (action-in-place keySize (k .args .policy .now) (k .args .i) (k .pre))
 
 pub rule-action-spec : {M : Type 1} → statement M
 rule-action-spec =

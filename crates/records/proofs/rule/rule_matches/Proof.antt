@@ -23,7 +23,7 @@ returns c =
       part-length keySize value (a .policy .now) (omega arith),
     )
     at (c .matches-row .ensures)
-    ∙ rule-in-place keySize (a .policy .now) (a .key .now) (a .i) (k .pre .0)
+    ∙ rule-in-place keySize (a .policy .now) (a .i) (k .pre .0) (a .key .now)
 
 pub rule-matches-spec : {M : Type 1} → statement M
 rule-matches-spec =

@@ -1,0 +1,18 @@
+-- Where no test refuses. Assumes nothing.
+use mathlib.Core.Path.{_≡_, refl}
+use mathlib.Core.Bool.{Bool, true, false}
+use mathlib.Core.Option.{Option, none, some}
+use Prim.Native.Nat.{ℕ}
+use native.Mathlib.Omega.{arith}
+use Rattle.checks.specs.Refusals.{orElse, need}
+use Rattle.checks.specs.declared.refusal.Refusal.{Refusal}
+
+-- neither of two
+pub none-first : (o later : Option Refusal) → orElse o later ≡ none → (o ≡ none) × (later ≡ none)
+none-first (some x) later e = let z : _≡_ {A = ℕ} 0 1 = cc in absurd (omega arith)
+none-first none later e = (refl, e)
+
+-- no refusal: the test passes, and the later ones do
+pub need-none : (b : Bool) (number : ℕ) (later : Option Refusal) → need b number later ≡ none → (b ≡ true) × (later ≡ none)
+need-none true number later e = (refl, e)
+need-none false number later e = let z : _≡_ {A = ℕ} 0 1 = cc in absurd (omega arith)
