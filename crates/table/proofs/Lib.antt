@@ -1,0 +1,2 @@
+-- Laws of the table's calls.
+pub mod LookupLaws

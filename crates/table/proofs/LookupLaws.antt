@@ -1,0 +1,127 @@
+-- What a lookup comes to, from the slot that is found. Assumes nothing.
+use mathlib.Core.Path.{_≡_, refl, sym, ap, _∙_}
+use mathlib.Core.Bool.{Bool, true, false}
+use mathlib.Core.List.{List}
+use mathlib.Core.Option.{Option, none, some}
+use Prim.Native.Nat.{ℕ, _*_, _≤_, _<_}
+use native.Mathlib.Omega.{arith}
+use lib.Dec.{leb}
+use lib.ListN.{length, set}
+use borrow.Author.Tests.{leb-true}
+use Rattle.model.specs.Bits.{Bytes}
+use Rattle.model.specs.Records.{Slot, slotAt, reportFor}
+use Rattle.model.specs.Ends.{counted, firstFor, lookup, afterLookup}
+use Rattle.model.proofs.Slots.{found}
+use Rattle.ternary.specs.Sizes.{keySize, positions}
+use Rattle.buffers.specs.Parts.{splice, spelled}
+use Rattle.records.specs.Layout.{slotSize, reportSize, mostSlots}
+use Rattle.checks.specs.Refusals.{orElse, need}
+use Rattle.checks.specs.declared.refusal.Refusal.{Refusal}
+use Rattle.slots.specs.Slots.{encodeSlot, slotCount, slotIn, slots, SlotPut}
+use Rattle.slots.specs.Refusals.{slotsRefusal, WholeSlots}
+use Rattle.slots.proofs.SlotLaws.{slot-count, slot-at, slots-spell}
+use Rattle.slots.proofs.FitLaws.{slots-accepted}
+use Rattle.messages.specs.Reports.{encodeReport}
+use Rattle.policy.specs.Refusals.{keyRefusal}
+use Rattle.table.specs.Lookups.{hitRefusal, roomRefusal, lookupRefusal, foundOf, findAnswer, Counted}
+use Rattle.table.specs.Lookups.{lookupAnswer, slotsAfterLookup, tableAfterLookup, outAfterLookup, LookedUp}
+use Rattle.table.specs.declared.lookup.Found.the-variants.{Refused as FoundRefused, Miss as FoundMiss, Slot as FoundSlot}
+use Rattle.table.specs.declared.lookup.LookupAnswer.the-variants.{Refused, Miss, Hit}
+
+-- ---- tests in a row
+
+-- where none of two is refused neither is
+pub neither : (o later : Option Refusal) → orElse o later ≡ none → (o ≡ none) × (later ≡ none)
+neither (some x) later e = let z : _≡_ {A = ℕ} 0 1 = cc in absurd (omega arith)
+neither none later e = (refl, e)
+
+-- a test that does not refuse has passed, and so have the later ones
+pub passed : (b : Bool) (number : ℕ) (later : Option Refusal) → need b number later ≡ none → (b ≡ true) × (later ≡ none)
+passed true number later e = (refl, e)
+passed false number later e = let z : _≡_ {A = ℕ} 0 1 = cc in absurd (omega arith)
+
+-- ---- what is found
+
+of-refused : (o : Option Refusal) (f : Option ℕ) (r : Refusal) → FoundRefused r ≡ foundOf o f → o ≡ some r
+of-refused (some x) f r e = cc
+of-refused none none r e = let z : _≡_ {A = ℕ} 0 1 = cc in absurd (omega arith)
+of-refused none (some i) r e = let z : _≡_ {A = ℕ} 0 1 = cc in absurd (omega arith)
+
+of-miss : (o : Option Refusal) (f : Option ℕ) → FoundMiss ≡ foundOf o f → (o ≡ none) × (f ≡ none)
+of-miss (some x) f e = let z : _≡_ {A = ℕ} 0 1 = cc in absurd (omega arith)
+of-miss none none e = (refl, refl)
+of-miss none (some i) e = let z : _≡_ {A = ℕ} 0 1 = cc in absurd (omega arith)
+
+of-slot : (o : Option Refusal) (f : Option ℕ) (i : ℕ) → FoundSlot i ≡ foundOf o f → (o ≡ none) × (f ≡ some i)
+of-slot (some x) f i e = let z : _≡_ {A = ℕ} 0 1 = cc in absurd (omega arith)
+of-slot none none i e = let z : _≡_ {A = ℕ} 0 1 = cc in absurd (omega arith)
+of-slot none (some k) i e = (refl, cc)
+
+module _ (key table : List ℕ) (room : ℕ) where
+  -- a lookup that is not refused has a buffer of whole slots
+  pub lookup-whole : lookupRefusal key table room ≡ none → WholeSlots table
+  unfolding lookupRefusal
+  lookup-whole e =
+      slots-accepted table .0 (neither (slotsRefusal table) _ (neither (keyRefusal key) _ e .1) .0)
+
+  -- and, on a hit, room for a report
+  hit-room : (i : ℕ) → lookupRefusal key table room ≡ none → firstFor positions (slots keySize table) key ≡ some i → reportSize ≤ room
+  unfolding lookupRefusal
+  hit-room i e f =
+      let h : roomRefusal room ≡ none = rw f at (neither (slotsRefusal table) _ (neither (keyRefusal key) _ e .1) .1) in
+      leb-true reportSize room (passed (leb reportSize room) _ none h .0)
+
+  module _ (i : ℕ) (e : FoundSlot i ≡ findAnswer key table room) where
+    hit-there : (lookupRefusal key table room ≡ none) × (firstFor positions (slots keySize table) key ≡ some i)
+    unfolding findAnswer
+    hit-there = of-slot (lookupRefusal key table room) (firstFor positions (slots keySize table) key) i e
+
+    -- the slot that is found is one of the table, and the output has room for its report
+    pub hit-below : i < slotCount keySize table
+    hit-below = omega (arith, found positions (slots keySize table) key i (hit-there .1) .inside, slot-count keySize table)
+
+    pub hit-few : i < mostSlots
+    hit-few = omega (arith, hit-below, lookup-whole (hit-there .0) .few-there)
+
+    pub hit-fits : reportSize ≤ room
+    hit-fits = hit-room i (hit-there .0) (hit-there .1)
+
+-- ---- the call
+
+module _ (key table out : List ℕ) where
+  pub looked-refused : (r : Refusal) → FoundRefused r ≡ findAnswer key table (length out) → LookedUp key table out (Refused r) table out
+  unfolding findAnswer lookupAnswer slotsAfterLookup tableAfterLookup outAfterLookup
+  looked-refused r e =
+      let refused = of-refused (lookupRefusal key table (length out)) (firstFor positions (slots keySize table) key) r e in
+      record { answer = rw refused; bytes = rw refused; meaning = rw refused; told = rw refused }
+
+  pub looked-missed : Bytes table → FoundMiss ≡ findAnswer key table (length out) → LookedUp key table out Miss table out
+  unfolding findAnswer lookupAnswer slotsAfterLookup tableAfterLookup outAfterLookup lookup afterLookup
+  looked-missed h e =
+      let m = of-miss (lookupRefusal key table (length out)) (firstFor positions (slots keySize table) key) e in
+      record {
+        answer = rw (m .0, m .1);
+        bytes = rw (m .0, m .1) (sym (slots-spell keySize table (lookup-whole key table (length out) (m .0) .whole) h));
+        meaning = rw (m .0, m .1);
+        told = rw (m .0, m .1);
+      }
+
+  pub looked-hit : (i : ℕ) (x : Slot) (table′ out′ : List ℕ) → FoundSlot i ≡ findAnswer key table (length out) → Counted table i x table′
+      → length table′ ≡ length table → Bytes table′ → out′ ≡ splice 0 (encodeReport (reportFor i x)) out
+      → LookedUp key table out (Hit i (x .rule) (x .action)) table′ out′
+  unfolding lookupAnswer slotsAfterLookup tableAfterLookup outAfterLookup lookup afterLookup
+  looked-hit i x table′ out′ e c l h t =
+      let m = hit-there key table (length out) i e in
+      let there : x ≡ counted (slotAt (slots keySize table) i) =
+      rw (slot-at keySize table i (hit-below key table (length out) i e)) (c .slot)
+      in
+      let after : slots keySize table′ ≡ set (slots keySize table) i (counted (slotAt (slots keySize table) i)) = rw there at (c .put .meaning) in
+      let whole : length table′ ≡ slotSize keySize * slotCount keySize table′ =
+      rw l (lookup-whole key table (length out) (m .0) .whole)
+      in
+      record {
+        answer = rw (m .0, m .1, there);
+        bytes = rw (m .0, m .1, ← after) (sym (slots-spell keySize table′ whole h));
+        meaning = rw (m .0, m .1) after;
+        told = rw (m .0, m .1) (t ∙ ap (λ (y : Slot). splice 0 (encodeReport (reportFor i y)) out) there);
+      }

@@ -1,0 +1,2 @@
+-- The table's end: what its calls answer, and what they leave in the buffers.
+pub mod Lookups

@@ -1,0 +1,93 @@
+-- The table looks a key up: the answer, the table's bytes after it, and the output's. Assumes nothing.
+use mathlib.Core.Path.{_≡_}
+use mathlib.Core.List.{List}
+use mathlib.Core.Option.{Option, none, some}
+use Prim.Native.Nat.{ℕ}
+use lib.Dec.{leb}
+use lib.ListN.{length}
+use Rattle.model.specs.Records.{Slot}
+use Rattle.model.specs.Refusals.{shortOutput}
+use Rattle.model.specs.Ends.{Hit, counted, firstFor, lookup, afterLookup}
+use Rattle.ternary.specs.Sizes.{keySize, positions}
+use Rattle.buffers.specs.Parts.{splice, spelled}
+use Rattle.records.specs.Layout.{reportSize}
+use Rattle.checks.specs.Refusals.{orElse, need}
+use Rattle.checks.specs.declared.refusal.Refusal.{Refusal}
+use Rattle.slots.specs.Slots.{encodeSlot, slotIn, slots, SlotPut}
+use Rattle.slots.specs.Refusals.{slotsRefusal}
+use Rattle.messages.specs.Reports.{encodeReport}
+use Rattle.policy.specs.Refusals.{keyRefusal}
+use Rattle.table.specs.declared.lookup.Found.{Found}
+use Rattle.table.specs.declared.lookup.Found.the-variants.{Refused as FoundRefused, Miss as FoundMiss, Slot as FoundSlot}
+use Rattle.table.specs.declared.lookup.LookupAnswer.{LookupAnswer}
+use Rattle.table.specs.declared.lookup.LookupAnswer.the-variants.{Refused, Miss, Hit as HitAt}
+
+-- 5: an output of `room` bytes is shorter than a report
+abbrev pub roomRefusal : ℕ → Option Refusal
+roomRefusal room = need (leb reportSize room) shortOutput none
+
+-- only a hit has an answer to write
+abbrev pub hitRefusal : {A : Type 0} → Option A → ℕ → Option Refusal
+hitRefusal none room = none
+hitRefusal (some h) room = roomRefusal room
+
+-- key 1; table 4; then 5
+unfoldable pub lookupRefusal : List ℕ → List ℕ → ℕ → Option Refusal
+lookupRefusal key table room =
+    orElse (keyRefusal key) (orElse (slotsRefusal table) (hitRefusal (firstFor positions (slots keySize table) key) room))
+
+-- ---- the slot that is found
+
+abbrev pub foundOf : Option Refusal → Option ℕ → Found
+foundOf (some r) found = FoundRefused r
+foundOf none none = FoundMiss
+foundOf none (some i) = FoundSlot i
+
+unfoldable pub findAnswer : List ℕ → List ℕ → ℕ → Found
+findAnswer key table room = foundOf (lookupRefusal key table room) (firstFor positions (slots keySize table) key)
+
+-- a hit counted in the i-th slot, which then is x
+pub record Counted (table : List ℕ) (i : ℕ) (x : Slot) (after : List ℕ) : Type 0 where
+  pub slot : x ≡ counted (slotIn keySize table i)
+  pub put : SlotPut keySize table i x after
+
+-- ---- the call
+
+-- the one where the call is refused, the other where it is not
+abbrev pub unlessRefused : {A : Type 0} → Option Refusal → A → A → A
+unlessRefused (some r) old new = old
+unlessRefused none old new = new
+
+-- the refusal, or what the table answers
+abbrev pub answerOf : Option Refusal → Option Hit → LookupAnswer
+answerOf (some r) hit = Refused r
+answerOf none none = Miss
+answerOf none (some h) = HitAt (h .slot) (h .rule) (h .action)
+
+unfoldable pub lookupAnswer : List ℕ → List ℕ → ℕ → LookupAnswer
+lookupAnswer key table room = answerOf (lookupRefusal key table room) (lookup positions (slots keySize table) key)
+
+-- the slots after it, and their bytes: a hit is counted; a miss and a refusal change none
+unfoldable pub slotsAfterLookup : List ℕ → List ℕ → ℕ → List Slot
+slotsAfterLookup key table room =
+    unlessRefused (lookupRefusal key table room) (slots keySize table) (afterLookup positions (slots keySize table) key)
+
+unfoldable pub tableAfterLookup : List ℕ → List ℕ → ℕ → List ℕ
+tableAfterLookup key table room =
+    unlessRefused (lookupRefusal key table room) table (spelled encodeSlot (afterLookup positions (slots keySize table) key))
+
+-- the report of a hit at the start of the output; its other bytes stay
+abbrev pub toldOf : Option Hit → List ℕ → List ℕ
+toldOf none out = out
+toldOf (some h) out = splice 0 (encodeReport (h .report)) out
+
+unfoldable pub outAfterLookup : List ℕ → List ℕ → List ℕ → List ℕ
+outAfterLookup key table out =
+    unlessRefused (lookupRefusal key table (length out)) out (toldOf (lookup positions (slots keySize table) key) out)
+
+-- what a lookup is: its answer r, and the buffers after it
+pub record LookedUp (key table out : List ℕ) (r : LookupAnswer) (table′ out′ : List ℕ) : Type 0 where
+  pub answer : r ≡ lookupAnswer key table (length out)
+  pub bytes : table′ ≡ tableAfterLookup key table (length out)
+  pub meaning : slots keySize table′ ≡ slotsAfterLookup key table (length out)
+  pub told : out′ ≡ outAfterLookup key table out

@@ -1,0 +1,43 @@
+// One hit more in a slot.
+use slots::slot::Slot;
+ghost use mathlib.Core.Path.{_≡_};
+ghost use Prim.Native.Nat.{_<_};
+ghost use Rattle.model.specs.Ends.{counted as oneMore};
+ghost use Rattle.ternary.specs.Sizes.{keySize};
+ghost use Rattle.slots.specs.Slots.{slotCount};
+ghost use Rattle.slots.specs.Structs.{asSlot};
+ghost use Rattle.table.specs.Lookups.{Counted};
+
+// A slot's hits stay here once there.
+const MOST_HITS: u32 = 4294967295;
+
+// The slot with one hit more.
+fn counted(x: Slot) -> Slot
+    ensures { λ r. ⌜ asSlot r ≡ oneMore (asSlot x) ⌝ }
+{
+    if x.hits == MOST_HITS {
+        return x;
+    }
+    let value = x.value;
+    let mask = x.mask;
+    Slot {
+        sequence: x.sequence,
+        hits: x.hits + 1,
+        value,
+        mask,
+        action: x.action,
+        rule: x.rule,
+        settled: x.settled,
+        spare: x.spare,
+    }
+}
+
+// Counts a hit in the i-th slot of a table, and gives the slot as it then is.
+pub fn count(table: &mut [u8], i: usize) -> Slot
+    requires { ⌜ i < slotCount keySize (now table) ⌝ }
+    ensures { λ r. ⌜ Counted (now (table .entry)) i (asSlot r) (now (table .exit)) ⌝ }
+{
+    let x = counted(slots::slot::slot_at(table, i));
+    slots::slot::put_slot(table, i, x);
+    x
+}
