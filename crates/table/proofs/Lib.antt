@@ -1,2 +1,4 @@
 -- Laws of the table's calls.
 pub mod LookupLaws
+pub mod StoreLaws
+pub mod WriteLaws
