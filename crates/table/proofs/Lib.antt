@@ -2,3 +2,4 @@
 pub mod LookupLaws
 pub mod StoreLaws
 pub mod WriteLaws
+pub mod ModelLaws

@@ -37,7 +37,8 @@ pub fn count(table: &mut [u8], i: usize) -> Slot
     requires { ⌜ i < slotCount keySize (now table) ⌝ }
     ensures { λ r. ⌜ Counted (now (table .entry)) i (asSlot r) (now (table .exit)) ⌝ }
 {
-    let x = counted(slots::slot::slot_at(table, i));
-    slots::slot::put_slot(table, i, x);
-    x
+    let old = slots::slot::slot_at(table, i);
+    let new = counted(old);
+    slots::slot::put_slot(table, i, new);
+    new
 }

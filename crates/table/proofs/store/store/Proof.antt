@@ -1,5 +1,6 @@
 -- `table::store::store` meets its contract: an entry of a greater sequence is put, and no other. Assumes nothing.
 use borrow.Author.Needs.{needs}
+use native.Mathlib.Omega.{arith}
 use Rattle.slots.specs.Structs.{asSlot}
 use Rattle.table.proofs.StoreLaws.{stored-kept, stored-new}
 use Rattle.table.proofs.store.store.Statement.{statement}
@@ -8,14 +9,14 @@ use Rattle.table.proofs.store.store.Tie as tie
 returns : tie.Need-returns
 returns c =
     let k = c .before .before .before in
-    stored-kept _ _ _ (k .before .before .before .before .pre) (k .slot-at .ensures) (c .if1 .taken)
+    stored-kept _ _ _ (k .before .before .before .before .pre) (k .slot-at .ensures) (omega (arith, c .if1 .taken))
 
 returns-2 : tie.Need-returns-2
 returns-2 c =
     let k = c .before .before .before .before in
     let n = k .before .before .before .before in
     stored-new _ _ (asSlot (n .slot-at .result)) _ _ (n .before .before .before .before .pre) (n .slot-at .ensures)
-    (k .before .if1 .left) (k .written .ensures) (c .before .before .put-slot .ensures)
+    (omega (arith, k .before .if1 .left)) (k .written .ensures) (c .before .before .put-slot .ensures)
 
 pub store-spec : {M : Type 1} → statement M
 store-spec =
