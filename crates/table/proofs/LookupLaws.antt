@@ -13,17 +13,17 @@ use Rattle.model.specs.Records.{Slot, slotAt, reportFor}
 use Rattle.model.specs.Ends.{counted, firstFor, lookup, afterLookup}
 use Rattle.model.proofs.Slots.{found}
 use Rattle.ternary.specs.Sizes.{keySize, positions}
-use Rattle.buffers.specs.Parts.{splice, spelled}
+use Rattle.buffers.specs.Parts.{splice}
 use Rattle.records.specs.Layout.{slotSize, reportSize, mostSlots}
 use Rattle.checks.specs.Refusals.{orElse, need}
 use Rattle.checks.specs.declared.refusal.Refusal.{Refusal}
-use Rattle.slots.specs.Slots.{encodeSlot, slotCount, slotIn, slots, SlotPut}
+use Rattle.slots.specs.Slots.{slotCount, slots}
 use Rattle.slots.specs.Refusals.{slotsRefusal, WholeSlots}
 use Rattle.slots.proofs.SlotLaws.{slot-count, slot-at, slots-spell}
 use Rattle.slots.proofs.FitLaws.{slots-accepted}
 use Rattle.messages.specs.Reports.{encodeReport}
 use Rattle.policy.specs.Refusals.{keyRefusal}
-use Rattle.table.specs.Lookups.{hitRefusal, roomRefusal, lookupRefusal, foundOf, findAnswer, Counted}
+use Rattle.table.specs.Lookups.{roomRefusal, lookupRefusal, foundOf, findAnswer, Counted}
 use Rattle.table.specs.Lookups.{lookupAnswer, slotsAfterLookup, tableAfterLookup, outAfterLookup, LookedUp}
 use Rattle.table.specs.declared.lookup.Found.the-variants.{Refused as FoundRefused, Miss as FoundMiss, Slot as FoundSlot}
 use Rattle.table.specs.declared.lookup.LookupAnswer.the-variants.{Refused, Miss, Hit}

@@ -1,16 +1,16 @@
 -- The table's calls on bytes, and the model's on slots: a write that is not refused here is not refused there, and the other way round where
 -- its length, kind and spare bytes are right. The bytes of a table after a call. Assumes nothing.
-use mathlib.Core.Path.{_≡_, refl, sym, ap, _∙_}
+use mathlib.Core.Path.{_≡_, refl}
 use mathlib.Core.Bool.{Bool, true, false, not}
 use mathlib.Core.List.{List}
-use mathlib.Core.Option.{Option, none, some}
-use Prim.Native.Nat.{ℕ, _≤_, _<_}
+use mathlib.Core.Option.{Option, none}
+use Prim.Native.Nat.{ℕ, _≤_}
 use native.Mathlib.Omega.{arith}
 use lib.Dec.{leb, eqb}
 use lib.ListN.{length, getD}
 use borrow.Author.Tests.{leb-false, eqb-false, lt-leb, ne-eqb}
 use Rattle.model.specs.Pattern.{canonical}
-use Rattle.model.specs.Ends.{refuse, writeRefusal, afterWrite}
+use Rattle.model.specs.Ends.{refuse, writeRefusal}
 use Rattle.model.proofs.Cases.{not-false}
 use Rattle.ternary.specs.Sizes.{keySize, positions}
 use Rattle.records.specs.Layout.{writeKind, isWrite, writeSize, reportSize}
@@ -20,8 +20,8 @@ use Rattle.slots.specs.Slots.{slotCount, slots}
 use Rattle.slots.specs.Refusals.{WholeSlots}
 use Rattle.slots.proofs.SlotLaws.{slot-count}
 use Rattle.messages.specs.Writes.{decodeWrite}
-use Rattle.table.specs.Writes.{writeCallRefusal, GoodWrite, GoodCall}
-use Rattle.table.proofs.WriteLaws.{good-write, good-call}
+use Rattle.table.specs.Writes.{writeCallRefusal, GoodWrite}
+use Rattle.table.proofs.WriteLaws.{good-call}
 
 -- the model's test does not refuse, and neither do the later ones
 unrefused : (b : Bool) (number : ℕ) (later : Option ℕ) → refuse b number later ≡ none → (b ≡ false) × (later ≡ none)

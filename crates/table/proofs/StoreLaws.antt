@@ -1,10 +1,10 @@
 -- To store a write: what its slot is then, where the entry is put and where it is not. Assumes nothing.
-use mathlib.Core.Path.{_≡_, refl, sym, ap, _∙_}
+use mathlib.Core.Path.{_≡_, sym, _∙_}
 use mathlib.Core.Bool.{true, false}
 use mathlib.Core.List.{List}
 use Prim.Native.Nat.{ℕ, _≤_, _<_}
 use native.Mathlib.Omega.{arith}
-use lib.ListN.{length, set}
+use lib.ListN.{length}
 use lib.Seq.{getD-set-same}
 use borrow.Author.Tests.{lt-ltb, le-ltb}
 use Rattle.model.specs.Records.{Slot, Write, slotAt, cleared, entryIn, written}

@@ -1,10 +1,10 @@
 -- Which writes are refused, and what one that is not comes to. Assumes nothing.
-use mathlib.Core.Path.{_≡_, refl, sym, ap, _∙_}
-use mathlib.Core.Bool.{Bool, true, false, not}
+use mathlib.Core.Path.{_≡_, refl, sym}
+use mathlib.Core.Bool.{false, not}
 use mathlib.Core.List.{List}
 use mathlib.Core.Option.{Option, none, some}
 use mathlib.Core.Logic.{_↔_}
-use Prim.Native.Nat.{ℕ, _*_, _≤_, _<_}
+use Prim.Native.Nat.{ℕ, _*_}
 use native.Mathlib.Omega.{arith}
 use lib.Dec.{leb, ltb, eqb}
 use lib.ListN.{length, getD}
@@ -14,13 +14,13 @@ use Rattle.model.specs.Records.{Slot, Write, reportFor}
 use Rattle.model.specs.Ends.{afterWrite, writeReport}
 use Rattle.model.proofs.Cases.{not-true}
 use Rattle.ternary.specs.Sizes.{keySize}
-use Rattle.buffers.specs.Parts.{splice, spelled}
+use Rattle.buffers.specs.Parts.{splice}
 use Rattle.records.specs.Layout.{slotSize, writeKind, isWrite, writeSize, reportSize}
 use Rattle.checks.specs.Flaws.{isFlawed, writeFlaw}
 use Rattle.checks.specs.declared.refusal.Refusal.{Refusal}
 use Rattle.checks.specs.declared.flaw.Flaw.{Flaw}
 use Rattle.checks.specs.declared.flaw.Flaw.the-variants.{Clean, Spare, Stray}
-use Rattle.slots.specs.Slots.{encodeSlot, slotCount, slots}
+use Rattle.slots.specs.Slots.{slotCount, slots}
 use Rattle.slots.specs.Refusals.{slotsRefusal}
 use Rattle.slots.proofs.SlotLaws.{slots-spell}
 use Rattle.slots.proofs.FitLaws.{slots-accepted}

@@ -2,7 +2,6 @@
 use mathlib.Core.Path.{_≡_}
 use mathlib.Core.List.{List}
 use Prim.Native.Nat.{ℕ}
-use lib.ListN.{length}
 use Rattle.model.specs.Records.{Slot, Write, slotAt}
 use Rattle.model.specs.Ends.{afterWrite}
 use Rattle.ternary.specs.Sizes.{keySize}

@@ -1,7 +1,6 @@
 -- `table::hit::count` meets its contract: the slot that was read, counted, is put back. Assumes nothing.
 use borrow.Author.Needs.{needs}
-use mathlib.Core.Path.{_≡_, ap, _∙_}
-use Rattle.model.specs.Records.{Slot}
+use mathlib.Core.Path.{ap, _∙_}
 use Rattle.model.specs.Ends.{counted}
 use Rattle.table.proofs.hit.count.Statement.{statement}
 use Rattle.table.proofs.hit.count.Tie as tie
