@@ -1,5 +1,2 @@
--- Laws of the table's calls.
+-- Laws of the lookup.
 pub mod LookupLaws
-pub mod StoreLaws
-pub mod WriteLaws
-pub mod ModelLaws

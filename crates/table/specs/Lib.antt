@@ -1,4 +1,2 @@
--- The table's end: what its calls answer, and what they leave in the buffers.
+-- The table looks a key up: the answer, and what it leaves in the buffers.
 pub mod Lookups
-pub mod Stores
-pub mod Writes

@@ -1,5 +1,3 @@
-// The table's end: what the chip answers to a key, and to a write of the keeper.
+// The table looks a key up.
 pub mod hit;
 pub mod lookup;
-pub mod store;
-pub mod write;

@@ -8,7 +8,7 @@ ghost use Rattle.ternary.specs.Sizes.{keySize};
 ghost use Rattle.slots.specs.Slots.{slotCount};
 ghost use Rattle.slots.specs.Structs.{asSlot};
 ghost use Rattle.messages.specs.Structs.{asWrite};
-ghost use Rattle.table.specs.Stores.{Stored};
+ghost use Rattle.received.specs.Stores.{Stored};
 
 // The slot just after a write's entry went into it: no hits, not settled.
 fn written(w: Write) -> Slot

@@ -1,10 +1,10 @@
--- `table::store::store` meets its contract: an entry of a greater sequence is put, and no other. Assumes nothing.
+-- `received::store::store` meets its contract: an entry of a greater sequence is put, and no other. Assumes nothing.
 use borrow.Author.Needs.{needs}
 use native.Mathlib.Omega.{arith}
 use Rattle.slots.specs.Structs.{asSlot}
-use Rattle.table.proofs.StoreLaws.{stored-kept, stored-new}
-use Rattle.table.proofs.store.store.Statement.{statement}
-use Rattle.table.proofs.store.store.Tie as tie
+use Rattle.received.proofs.StoreLaws.{stored-kept, stored-new}
+use Rattle.received.proofs.store.store.Statement.{statement}
+use Rattle.received.proofs.store.store.Tie as tie
 
 returns : tie.Need-returns
 returns c =

@@ -1,4 +1,4 @@
--- `table::write::write_answer` meets its contract: at each `return` the tests that led there say which refusal it is. Assumes nothing.
+-- `received::write::write_answer` meets its contract: at each `return` the tests that led there say which refusal it is. Assumes nothing.
 use borrow.Author.Needs.{needs}
 use mathlib.Core.Path.{_≡_, sym, _∙_}
 use mathlib.Core.Bool.{true}
@@ -8,10 +8,10 @@ use Rattle.model.proofs.Cases.{not-true, not-false}
 use Rattle.ternary.specs.Sizes.{keySize}
 use Rattle.slots.specs.Slots.{slotCount}
 use Rattle.slots.specs.Refusals.{slotsFit, slotsRefusal}
-use Rattle.table.specs.Writes.{writeMessageRefusal, writeCallRefusal}
-use Rattle.table.proofs.WriteLaws.{taken-refused, taken-passed}
-use Rattle.table.proofs.write.write_answer.Statement.{statement}
-use Rattle.table.proofs.write.write_answer.Tie as tie
+use Rattle.received.specs.Writes.{writeMessageRefusal, writeCallRefusal}
+use Rattle.received.proofs.WriteLaws.{taken-refused, taken-passed}
+use Rattle.received.proofs.write.write_answer.Statement.{statement}
+use Rattle.received.proofs.write.write_answer.Tie as tie
 
 returns : tie.Need-returns
 unfolding writeCallRefusal slotsRefusal

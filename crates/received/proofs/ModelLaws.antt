@@ -20,8 +20,8 @@ use Rattle.slots.specs.Slots.{slotCount, slots}
 use Rattle.slots.specs.Refusals.{WholeSlots}
 use Rattle.slots.proofs.SlotLaws.{slot-count}
 use Rattle.messages.specs.Writes.{decodeWrite}
-use Rattle.table.specs.Writes.{writeCallRefusal, GoodWrite}
-use Rattle.table.proofs.WriteLaws.{good-call}
+use Rattle.received.specs.Writes.{writeCallRefusal, GoodWrite}
+use Rattle.received.proofs.WriteLaws.{good-call}
 
 -- the model's test does not refuse, and neither do the later ones
 unrefused : (b : Bool) (number : ℕ) (later : Option ℕ) → refuse b number later ≡ none → (b ≡ false) × (later ≡ none)

@@ -1,4 +1,4 @@
--- `table::write::message_answer` meets its contract: at each `return` the tests that led there say which refusal it is. Assumes nothing.
+-- `received::write::message_answer` meets its contract: at each `return` the tests that led there say which refusal it is. Assumes nothing.
 use borrow.Author.Needs.{needs}
 use mathlib.Core.Path.{_≡_, refl, sym, ap, _∙_}
 use mathlib.Core.Bool.{true}
@@ -12,9 +12,9 @@ use Rattle.checks.specs.declared.flaw.Flaw.{Flaw}
 use Rattle.checks.specs.declared.flaw.Flaw.the-variants.{Clean, Spare, Stray}
 use Rattle.checks.proofs.flaw.Flaw.{the-type}
 use Rattle.messages.specs.Writes.{decodeWrite}
-use Rattle.table.specs.Writes.{writeMessageRefusal}
-use Rattle.table.proofs.write.message_answer.Statement.{statement}
-use Rattle.table.proofs.write.message_answer.Tie as tie
+use Rattle.received.specs.Writes.{writeMessageRefusal}
+use Rattle.received.proofs.write.message_answer.Statement.{statement}
+use Rattle.received.proofs.write.message_answer.Tie as tie
 
 returns : tie.Need-returns
 unfolding writeMessageRefusal

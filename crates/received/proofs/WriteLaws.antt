@@ -26,11 +26,11 @@ use Rattle.slots.proofs.SlotLaws.{slots-spell}
 use Rattle.slots.proofs.FitLaws.{slots-accepted}
 use Rattle.messages.specs.Writes.{decodeWrite}
 use Rattle.messages.specs.Reports.{encodeReport}
-use Rattle.table.specs.Stores.{Stored}
-use Rattle.table.specs.Writes.{writeMessageRefusal, writeCallRefusal, takenOf, GoodWrite, GoodCall}
-use Rattle.table.specs.Writes.{slotsAfterWrite, tableAfterWrite, outAfterWrite, Received}
-use Rattle.table.specs.declared.write.WriteAnswer.the-variants.{Refused, Taken}
+use Rattle.received.specs.Stores.{Stored}
+use Rattle.received.specs.Writes.{writeMessageRefusal, writeCallRefusal, takenOf, GoodWrite, GoodCall}
+use Rattle.received.specs.Writes.{slotsAfterWrite, tableAfterWrite, outAfterWrite, Received}
+use Rattle.received.specs.declared.write.WriteAnswer.the-variants.{Refused, Taken}
 use Rattle.table.proofs.LookupLaws.{neither, passed}
 
 -- ---- what the answer says
 

@@ -1,4 +1,4 @@
--- `table::write::write` meets its contract: a write that is not refused is stored, and its slot reported. Assumes nothing.
+-- `received::write::write` meets its contract: a write that is not refused is stored, and its slot reported. Assumes nothing.
 use borrow.Author.Needs.{needs}
 use mathlib.Core.Path.{_≡_, sym, ap, _∙_}
 use native.Mathlib.Omega.{arith}
@@ -7,11 +7,11 @@ use Rattle.model.specs.Records.{Write}
 use Rattle.ternary.proofs.ByteLaws.{bytes-of}
 use Rattle.slots.specs.Structs.{asSlot}
 use Rattle.messages.specs.Structs.{asWrite}
-use Rattle.table.specs.Writes.{writeCallRefusal, takenOf, GoodCall}
-use Rattle.table.specs.declared.write.WriteAnswer.the-variants.{Taken}
-use Rattle.table.proofs.WriteLaws.{taken-good, received-refused, received-taken}
-use Rattle.table.proofs.write.write.Statement.{statement}
-use Rattle.table.proofs.write.write.Tie as tie
+use Rattle.received.specs.Writes.{writeCallRefusal, takenOf, GoodCall}
+use Rattle.received.specs.declared.write.WriteAnswer.the-variants.{Taken}
+use Rattle.received.proofs.WriteLaws.{taken-good, received-refused, received-taken}
+use Rattle.received.proofs.write.write.Statement.{statement}
+use Rattle.received.proofs.write.write.Tie as tie
 
 returns : tie.Need-returns
 returns c = received-refused _ _ _ _ (sym (c .before .refusal .given .1) ∙ c .before .before .before .write-answer .ensures)

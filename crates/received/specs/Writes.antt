@@ -20,9 +20,9 @@ use Rattle.slots.specs.Slots.{encodeSlot, slotCount, slots}
 use Rattle.slots.specs.Refusals.{slotsRefusal, WholeSlots}
 use Rattle.messages.specs.Writes.{decodeWrite}
 use Rattle.messages.specs.Reports.{encodeReport}
 use Rattle.table.specs.Lookups.{roomRefusal, unlessRefused}
-use Rattle.table.specs.declared.write.WriteAnswer.{WriteAnswer}
-use Rattle.table.specs.declared.write.WriteAnswer.the-variants.{Refused, Taken}
+use Rattle.received.specs.declared.write.WriteAnswer.{WriteAnswer}
+use Rattle.received.specs.declared.write.WriteAnswer.the-variants.{Refused, Taken}
 
 -- message 1, 8, 3, 9, 10, where the table has `count` slots
 unfoldable pub writeMessageRefusal : List ℕ → ℕ → Option Refusal

@@ -5,7 +5,7 @@ use records::layout;
 ghost use mathlib.Core.Path.{_≡_};
 ghost use mathlib.Core.Option.{some};
 ghost use Rattle.checks.specs.Refusals.{refusal as refusalOf};
-ghost use Rattle.table.specs.Writes.{takenOf, writeMessageRefusal, writeCallRefusal, Received};
+ghost use Rattle.received.specs.Writes.{takenOf, writeMessageRefusal, writeCallRefusal, Received};
 
 // A write's refusal, or that it is taken.
 pub enum WriteAnswer {
