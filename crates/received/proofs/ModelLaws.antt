@@ -1,26 +1,37 @@
 -- The table's calls on bytes, and the model's on slots: a write that is not refused here is not refused there, and the other way round where
--- its length, kind and spare bytes are right. The bytes of a table after a call. Assumes nothing.
+-- its length, kind and spare bytes are right; which lookups are refused; what a call that is not refused does. Assumes nothing.
 use mathlib.Core.Path.{_≡_, refl}
 use mathlib.Core.Bool.{Bool, true, false, not}
 use mathlib.Core.List.{List}
-use mathlib.Core.Option.{Option, none}
+use mathlib.Core.Option.{Option, none, some}
+use mathlib.Core.Logic.{_↔_}
 use Prim.Native.Nat.{ℕ, _≤_}
 use native.Mathlib.Omega.{arith}
 use lib.Dec.{leb, eqb}
 use lib.ListN.{length, getD}
-use borrow.Author.Tests.{leb-false, eqb-false, lt-leb, ne-eqb}
+use borrow.Author.Tests.{leb-false, eqb-true, eqb-false, le-leb, lt-leb, eq-eqb, ne-eqb}
 use Rattle.model.specs.Pattern.{canonical}
-use Rattle.model.specs.Ends.{refuse, writeRefusal}
+use Rattle.model.specs.Ends.{firstFor, lookup, afterLookup, refuse, writeRefusal, afterWrite, writeReport}
 use Rattle.model.proofs.Cases.{not-false}
 use Rattle.ternary.specs.Sizes.{keySize, positions}
+use Rattle.buffers.specs.Parts.{splice}
 use Rattle.records.specs.Layout.{writeKind, isWrite, writeSize, reportSize}
 use Rattle.checks.specs.Flaws.{Zeros, writeSpares}
 use Rattle.checks.proofs.CleanLaws.{write-clean}
 use Rattle.slots.specs.Slots.{slotCount, slots}
 use Rattle.slots.specs.Refusals.{WholeSlots}
 use Rattle.slots.proofs.SlotLaws.{slot-count}
+use Rattle.slots.proofs.FitLaws.{slots-accepted}
 use Rattle.messages.specs.Writes.{decodeWrite}
-use Rattle.received.specs.Writes.{writeCallRefusal, GoodWrite}
+use Rattle.messages.specs.Reports.{encodeReport}
+use Rattle.policy.specs.Refusals.{keyRefusal}
+use Rattle.table.specs.Lookups.{hitRefusal, lookupRefusal, GoodLookup, answerOf, toldOf}
+use Rattle.table.specs.Lookups.{lookupAnswer, slotsAfterLookup, outAfterLookup, LookedUp}
+use Rattle.received.specs.Writes.{writeCallRefusal, GoodWrite, slotsAfterWrite, outAfterWrite, Received}
+use Rattle.table.specs.declared.lookup.LookupAnswer.{LookupAnswer}
+use Rattle.received.specs.declared.write.WriteAnswer.{WriteAnswer}
+use Rattle.received.specs.declared.write.WriteAnswer.the-variants.{Taken}
+use Rattle.table.proofs.LookupLaws.{neither, passed, lookup-whole, hit-room}
 use Rattle.received.proofs.WriteLaws.{good-call}
 
 -- the model's test does not refuse, and neither do the later ones
@@ -65,3 +76,42 @@ module _ (table m : List ℕ) where
 
   pub taken-there : (room : ℕ) → writeCallRefusal table m room ≡ none → writeRefusal positions (slots keySize table) (decodeWrite keySize m) ≡ none
   taken-there room e = good-there (good-call table m room .0 e .good)
+
+-- ---- which lookups are not refused
+
+room-for : (f : Option ℕ) (room : ℕ) → ((i : ℕ) → f ≡ some i → reportSize ≤ room) → hitRefusal f room ≡ none
+room-for none room h = refl
+room-for (some i) room h = rw (le-leb reportSize room (h i refl))
+
+pub good-lookup : (key table : List ℕ) (room : ℕ) → (lookupRefusal key table room ≡ none) ↔ GoodLookup key table room
+unfolding lookupRefusal keyRefusal
+good-lookup key table room = (
+  λ e.
+      let long = neither (keyRefusal key) _ e in
+      record {
+        long = eqb-true _ _ (passed (eqb (length key) keySize) _ none (long .0) .0);
+        whole = lookup-whole key table room e;
+        fits = λ i f. hit-room key table room i e f;
+      },
+  λ h. rw (
+    eq-eqb (length key) keySize (h .long),
+    slots-accepted table .1 (h .whole),
+    room-for (firstFor positions (slots keySize table) key) room (h .fits),
+  ),
+)
+
+-- ---- what a call that is not refused is in the model
+
+module _ {key table out table′ out′ : List ℕ} {r : LookupAnswer} (is : LookedUp key table out r table′ out′) where
+  pub looked-up : lookupRefusal key table (length out) ≡ none
+      → (r ≡ answerOf none (lookup positions (slots keySize table) key)) × (slots keySize table′ ≡ afterLookup positions (slots keySize table) key)
+      × (out′ ≡ toldOf (lookup positions (slots keySize table) key) out)
+  unfolding lookupAnswer slotsAfterLookup outAfterLookup
+  looked-up e = (rw e at (is .answer), rw e at (is .meaning), rw e at (is .told))
+
+module _ {table m out table′ out′ : List ℕ} {r : WriteAnswer} (is : Received table m out r table′ out′) where
+  pub received : writeCallRefusal table m (length out) ≡ none
+      → (r ≡ Taken) × (slots keySize table′ ≡ afterWrite (slots keySize table) (decodeWrite keySize m))
+      × (out′ ≡ splice 0 (encodeReport (writeReport (slots keySize table) (decodeWrite keySize m))) out)
+  unfolding slotsAfterWrite outAfterWrite
+  received e = (rw e at (is .answer), rw e at (is .meaning), rw e at (is .told))

@@ -1,3 +1,3 @@
 // The table receives a write of the keeper.
-pub mod store;
+mod store;
 pub mod write;

@@ -3,3 +3,4 @@ pub mod SlotLaws
 pub mod InPlace
 pub mod HoldingLaws
 pub mod FitLaws
+pub mod ByteSlots

@@ -65,7 +65,7 @@ module _ (key table : List ℕ) (room : ℕ) where
       slots-accepted table .0 (neither (slotsRefusal table) _ (neither (keyRefusal key) _ e .1) .0)
 
   -- and, on a hit, room for a report
-  hit-room : (i : ℕ) → lookupRefusal key table room ≡ none → firstFor positions (slots keySize table) key ≡ some i → reportSize ≤ room
+  pub hit-room : (i : ℕ) → lookupRefusal key table room ≡ none → firstFor positions (slots keySize table) key ≡ some i → reportSize ≤ room
   unfolding lookupRefusal
   hit-room i e f =
       let h : roomRefusal room ≡ none = rw f at (neither (slotsRefusal table) _ (neither (keyRefusal key) _ e .1) .1) in

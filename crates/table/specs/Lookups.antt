@@ -2,7 +2,7 @@
 use mathlib.Core.Path.{_≡_}
 use mathlib.Core.List.{List}
 use mathlib.Core.Option.{Option, none, some}
-use Prim.Native.Nat.{ℕ}
+use Prim.Native.Nat.{ℕ, _≤_}
 use lib.Dec.{leb}
 use lib.ListN.{length}
 use Rattle.model.specs.Records.{Slot}
@@ -14,7 +14,7 @@ use Rattle.records.specs.Layout.{reportSize}
 use Rattle.checks.specs.Refusals.{orElse, need}
 use Rattle.checks.specs.declared.refusal.Refusal.{Refusal}
 use Rattle.slots.specs.Slots.{encodeSlot, slotIn, slots, SlotPut}
-use Rattle.slots.specs.Refusals.{slotsRefusal}
+use Rattle.slots.specs.Refusals.{slotsRefusal, WholeSlots}
 use Rattle.messages.specs.Reports.{encodeReport}
 use Rattle.policy.specs.Refusals.{keyRefusal}
 use Rattle.table.specs.declared.lookup.Found.{Found}
@@ -35,6 +35,12 @@ hitRefusal (some h) room = roomRefusal room
 unfoldable pub lookupRefusal : List ℕ → List ℕ → ℕ → Option Refusal
 lookupRefusal key table room =
     orElse (keyRefusal key) (orElse (slotsRefusal table) (hitRefusal (firstFor positions (slots keySize table) key) room))
+
+-- what a lookup is that is not refused
+pub record GoodLookup (key table : List ℕ) (room : ℕ) : Type 0 where
+  pub long : length key ≡ keySize
+  pub whole : WholeSlots table
+  pub fits : (i : ℕ) → firstFor positions (slots keySize table) key ≡ some i → reportSize ≤ room
 
 -- ---- the slot that is found
 

@@ -1,3 +1,3 @@
 // The table looks a key up.
-pub mod hit;
+mod hit;
 pub mod lookup;
