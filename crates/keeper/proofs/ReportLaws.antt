@@ -1,0 +1,153 @@
+-- A report at the keeper: what its tests come to, and what taking it does. Assumes nothing.
+use mathlib.Core.Path.{_≡_, refl, sym, _∙_}
+use mathlib.Core.Bool.{Bool, true, false, not}
+use mathlib.Core.List.{List}
+use mathlib.Core.Logic.{_≢_}
+use mathlib.Core.Option.{Option, none, some}
+use Prim.Native.Nat.{ℕ, _≤_, _<_}
+use native.Mathlib.Omega.{arith}
+use lib.Dec.{leb, eqb}
+use lib.ListN.{length, getD}
+use borrow.Author.Tests.{eqb-true, eq-eqb, ne-eqb, leb-false, le-leb, lt-leb, lt-ltb, le-ltb}
+use Rattle.model.specs.Records.{Slot, Report, slotAt}
+use Rattle.model.specs.Ends.{refuse, reportRefusal, isCurrent, confirmed, afterReport}
+use Rattle.model.specs.Refusals.{ragged, wrongKind, badRecord, noSuchSlot, sequenceZero, reportAhead}
+use Rattle.ternary.specs.Sizes.{keySize}
+use Rattle.records.specs.Layout.{reportKind, reportZero, reportSize, isReport}
+use Rattle.checks.specs.Refusals.{need}
+use Rattle.checks.specs.Flaws.{isFlawed, reportFlaw}
+use Rattle.checks.specs.declared.refusal.Refusal.{Refusal}
+use Rattle.slots.specs.Slots.{slotCount, slotIn, slots, SlotPut}
+use Rattle.slots.specs.Refusals.{slotsRefusal, WholeSlots}
+use Rattle.slots.proofs.SlotLaws.{slot-count, slot-at}
+use Rattle.slots.proofs.FitLaws.{slots-accepted}
+use Rattle.checks.proofs.CleanLaws.{report-clean}
+use Rattle.messages.specs.Reports.{decodeReport}
+use Rattle.checks.proofs.RefusalLaws.{none-first, need-none}
+use Rattle.keeper.specs.Reports.{numbered, bytesRefusal, reportRefused, answerOf, reportAnswer, reportBytes, ReportTaken, Reported}
+use Rattle.keeper.specs.declared.ReportAnswer.{ReportAnswer}
+use Rattle.keeper.specs.declared.ReportAnswer.the-variants.{Refused, Taken}
+
+-- ---- what an answer says of the tests
+
+pub of-refused : (o : Option Refusal) {r : Refusal} {a : ReportAnswer} → a ≡ answerOf o → a ≡ Refused r → o ≡ some r
+of-refused (some x) e t = cc
+of-refused none e t = let z : _≡_ {A = ℕ} 0 1 = cc in absurd (omega arith)
+
+pub of-taken : (o : Option Refusal) {a : ReportAnswer} → a ≡ answerOf o → a ≡ Taken → o ≡ none
+of-taken (some x) e t = let z : _≡_ {A = ℕ} 0 1 = cc in absurd (omega arith)
+of-taken none e t = refl
+
+-- bytes that are not refused are as many as a report has
+pub bytes-long : (message : List ℕ) → bytesRefusal message ≡ none → length message ≡ reportSize
+unfolding bytesRefusal
+bytes-long message e =
+    eqb-true _ _ (need-none (eqb (length message) reportSize) ragged
+    (need (eqb (getD message reportKind 0) isReport) wrongKind (need (not (isFlawed (reportFlaw message))) badRecord none)) e .0)
+
+-- ---- the report against the slots: 9, 10, 11
+
+module _ (keeper : List ℕ) (x : Report) where
+  abbrev k : List Slot
+  k = slots keySize keeper
+
+  -- what was told of the report against the slots, in the words of the model's refusal
+  abbrev Told : ReportAnswer → Option ℕ → Type 0
+  Told r o = r ≡ answerOf (numbered o) → r ≡ answerOf (numbered (reportRefusal k x))
+
+  pub no-slot : {r : ReportAnswer} {i : ℕ} → i ≡ x .slot → slotCount keySize keeper ≤ i → Told r (some noSuchSlot)
+  unfolding reportRefusal
+  no-slot e l t = rw (le-leb (length k) (x .slot) (omega (arith, slot-count keySize keeper))) t
+
+  module _ {i : ℕ} (e : i ≡ x .slot) (l : i < slotCount keySize keeper) where
+    inside : leb (length k) (x .slot) ≡ false
+    inside = lt-leb (length k) (x .slot) (omega (arith, slot-count keySize keeper))
+
+    pub no-sequence : {r : ReportAnswer} → x .sequence ≡ 0 → Told r (some sequenceZero)
+    unfolding reportRefusal
+    no-sequence z t = rw (inside, eq-eqb (x .sequence) 0 z) t
+
+    module _ {old : Slot} (is : old ≡ slotIn keySize keeper i) where
+      there : slotAt k (x .slot) ≡ old
+      there = rw (← e) (slot-at keySize keeper i l ∙ sym is)
+
+      pub too-new : {r : ReportAnswer} → x .sequence ≢ 0 → old .sequence < x .sequence → Told r (some reportAhead)
+      unfolding reportRefusal
+      too-new n m t = rw (inside, ne-eqb (x .sequence) 0 n, there, lt-ltb (old .sequence) (x .sequence) m) t
+
+      pub in-time : {r : ReportAnswer} → x .sequence ≢ 0 → x .sequence ≤ old .sequence → Told r none
+      unfolding reportRefusal
+      in-time n m t = rw (inside, ne-eqb (x .sequence) 0 n, there, le-ltb (old .sequence) (x .sequence) m) t
+
+      -- ---- what taking it does
+
+      pub taken-current : {y : Slot} {keeper′ : List ℕ} → x .sequence ≡ old .sequence → y ≡ confirmed old (x .hits)
+          → SlotPut keySize keeper i y keeper′ → ReportTaken keeper x keeper′
+      unfolding reportBytes afterReport
+      taken-current s c put =
+          let t : isCurrent k x ≡ true = rw there (eq-eqb (x .sequence) (old .sequence) s) in
+          record { bytes = rw (t, there, ← c, ← e) (put .bytes); meaning = rw (t, there, ← c, ← e) (put .meaning) }
+
+      pub taken-older : x .sequence ≢ old .sequence → ReportTaken keeper x keeper
+      unfolding reportBytes afterReport
+      taken-older s =
+          let t : isCurrent k x ≡ false = rw there (ne-eqb (x .sequence) (old .sequence) s) in
+          record { bytes = rw t; meaning = rw t }
+
+-- ---- the whole call
+
+module _ (keeper message : List ℕ) where
+  -- the report is taken
+  pub record Accepted : Type 0 where
+    pub fine : reportRefused keeper message ≡ none
+    pub long : length message ≡ reportSize
+    pub inside : decodeReport message .slot < slotCount keySize keeper
+
+  not-refused : (o : Option ℕ) → numbered o ≡ none → o ≡ none
+  not-refused none e = refl
+  not-refused (some n) e = let z : _≡_ {A = ℕ} 0 1 = cc in absurd (omega arith)
+
+  passed-first : (b : Bool) (r : ℕ) (later : Option ℕ) → refuse b r later ≡ none → b ≡ false
+  passed-first true r later e = let z : _≡_ {A = ℕ} 0 1 = cc in absurd (omega arith)
+  passed-first false r later e = refl
+
+  slot-inside : (x : Report) → reportRefusal (slots keySize keeper) x ≡ none → x .slot < slotCount keySize keeper
+  unfolding reportRefusal
+  slot-inside x e =
+      omega (arith, slot-count keySize keeper, leb-false (length (slots keySize keeper)) (x .slot) (passed-first _ noSuchSlot _ e))
+
+  pub accepted-of : {a : ReportAnswer} → a ≡ reportAnswer keeper message → a ≡ Taken → Accepted
+  unfolding reportAnswer reportRefused
+  accepted-of e t =
+      let fine = of-taken (reportRefused keeper message) e t in
+      let later = none-first (slotsRefusal keeper) _ fine .1 in
+      let parts = none-first (bytesRefusal message) _ later in
+      record {
+        fine = fine;
+        long = bytes-long message (parts .0);
+        inside = slot-inside (decodeReport message) (not-refused _ (parts .1));
+      }
+
+  pub reported-refused : {a : ReportAnswer} {r : Refusal} → a ≡ reportAnswer keeper message → a ≡ Refused r
+      → Reported keeper message (Refused r) keeper
+  unfolding reportAnswer
+  reported-refused e t =
+      let refused = of-refused (reportRefused keeper message) e t in
+      record { answer = rw refused; bytes = rw refused; meaning = rw refused }
+
+  pub reported-taken : {x : Report} {keeper′ : List ℕ} → Accepted → x ≡ decodeReport message → ReportTaken keeper x keeper′
+      → Reported keeper message Taken keeper′
+  unfolding reportAnswer
+  reported-taken is e h =
+      record { answer = rw (is .fine); bytes = rw (is .fine, ← e) (h .bytes); meaning = rw (is .fine, ← e) (h .meaning) }
+
+  -- bytes of the right length and kind, with a zero byte that is zero, are not refused
+  bytes-fine : length message ≡ reportSize → getD message reportKind 0 ≡ isReport → getD message reportZero 0 ≡ 0 → bytesRefusal message ≡ none
+  unfolding bytesRefusal
+  bytes-fine l kind zeroed = rw (eq-eqb _ _ l, eq-eqb _ _ kind, report-clean message .1 (zeroed, tt))
+
+  -- then the report is refused as the model says
+  pub report-meaning : WholeSlots keeper → length message ≡ reportSize → getD message reportKind 0 ≡ isReport → getD message reportZero 0 ≡ 0
+      → reportRefused keeper message ≡ numbered (reportRefusal (slots keySize keeper) (decodeReport message))
+  unfolding reportRefused
+  report-meaning whole l kind zeroed = rw (slots-accepted keeper .1 whole, bytes-fine l kind zeroed)

@@ -1,0 +1,4 @@
+-- What the keeper's calls answer, and what they leave in its buffer.
+pub mod Reports
+pub mod Opens
+pub mod Room

@@ -1,0 +1,68 @@
+-- What the keeper answers to a report, and what it leaves in its buffer. Assumes nothing.
+use mathlib.Core.Path.{_≡_}
+use mathlib.Core.Bool.{not, cond}
+use mathlib.Core.List.{List}
+use mathlib.Core.Option.{Option, none, some}
+use Prim.Native.Nat.{ℕ}
+use lib.Dec.{eqb}
+use lib.ListN.{length, getD}
+use Rattle.model.specs.Records.{Report, slotAt}
+use Rattle.model.specs.Ends.{reportRefusal, isCurrent, confirmed, afterReport}
+use Rattle.model.specs.Refusals.{ragged, wrongKind, badRecord}
+use Rattle.ternary.specs.Sizes.{keySize}
+use Rattle.records.specs.Layout.{reportKind, reportSize, isReport}
+use Rattle.checks.specs.Refusals.{refusal, orElse, need}
+use Rattle.checks.specs.declared.refusal.Refusal.{Refusal}
+use Rattle.checks.specs.Flaws.{isFlawed, reportFlaw}
+use Rattle.slots.specs.Slots.{slots, putSlot}
+use Rattle.slots.specs.Refusals.{slotsRefusal}
+use Rattle.messages.specs.Reports.{decodeReport}
+use Rattle.keeper.specs.declared.ReportAnswer.{ReportAnswer}
+use Rattle.keeper.specs.declared.ReportAnswer.the-variants.{Refused, Taken}
+
+-- the model's refusal number, at place 0
+abbrev pub numbered : Option ℕ → Option Refusal
+numbered none = none
+numbered (some number) = some (refusal number 0)
+
+-- message 1, 8, 3
+unfoldable pub bytesRefusal : List ℕ → Option Refusal
+bytesRefusal message =
+    need (eqb (length message) reportSize) ragged
+    (need (eqb (getD message reportKind 0) isReport) wrongKind (need (not (isFlawed (reportFlaw message))) badRecord none))
+
+-- keeper 4; message 1, 8, 3; then 9, 10, 11, which the model tells of the slots and the report that the bytes mean
+unfoldable pub reportRefused : List ℕ → List ℕ → Option Refusal
+reportRefused keeper message =
+    orElse (slotsRefusal keeper) (orElse (bytesRefusal message) (numbered (reportRefusal (slots keySize keeper) (decodeReport message))))
+
+-- the refusal, or that the report is taken
+abbrev pub answerOf : Option Refusal → ReportAnswer
+answerOf (some r) = Refused r
+answerOf none = Taken
+
+unfoldable pub reportAnswer : List ℕ → List ℕ → ReportAnswer
+reportAnswer keeper message = answerOf (reportRefused keeper message)
+
+-- the keeper's bytes once a report is taken: those of one slot are replaced where it has the slot's sequence, else none
+unfoldable pub reportBytes : List ℕ → Report → List ℕ
+reportBytes keeper x =
+    let k = slots keySize keeper in
+    cond (isCurrent k x) (putSlot keySize keeper (x .slot) (confirmed (slotAt k (x .slot)) (x .hits))) keeper
+
+-- what it is to take a report: so many bytes change, and the slots are as the model has them
+pub record ReportTaken (keeper : List ℕ) (x : Report) (keeper′ : List ℕ) : Type 0 where
+  pub bytes : keeper′ ≡ reportBytes keeper x
+  pub meaning : slots keySize keeper′ ≡ afterReport (slots keySize keeper) x
+
+-- what a refusal leaves as it was
+abbrev pub leftOf : {A : Type 0} → Option Refusal → A → A → A
+leftOf (some r) was becomes = was
+leftOf none was becomes = becomes
+
+-- the answer; the keeper after it, byte by byte; and its slots
+pub record Reported (keeper message : List ℕ) (r : ReportAnswer) (keeper′ : List ℕ) : Type 0 where
+  pub answer : r ≡ reportAnswer keeper message
+  pub bytes : keeper′ ≡ leftOf (reportRefused keeper message) keeper (reportBytes keeper (decodeReport message))
+  pub meaning : slots keySize keeper′
+      ≡ leftOf (reportRefused keeper message) (slots keySize keeper) (afterReport (slots keySize keeper) (decodeReport message))

@@ -1,0 +1,12 @@
+-- The room for a new entry. Assumes nothing.
+use mathlib.Core.List.{List}
+use mathlib.Core.Option.{Option}
+use Prim.Native.Nat.{ℕ}
+use lib.ListN.{length}
+use Rattle.model.specs.Below.{firstBelow}
+use Rattle.model.specs.Records.{Slot, slotAt}
+use Rattle.model.specs.Ends.{isEmpty}
+
+-- the lowest empty slot
+abbrev pub firstEmpty : List Slot → Option ℕ
+firstEmpty k = firstBelow (λ i. isEmpty (slotAt k i)) (length k)

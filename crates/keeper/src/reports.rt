@@ -1,0 +1,111 @@
+// Reports that arrive at the keeper: how they are refused, and what they change.
+use crate::ReportAnswer;
+use checks::flaw::Flaw;
+use checks::refusal;
+use checks::refusal::Refusal;
+use cover::numbers::wide;
+use messages::report::Report;
+use records::layout;
+use slots::slot::Slot;
+ghost use mathlib.Core.Path.{_≡_};
+ghost use mathlib.Core.Option.{some};
+ghost use Prim.Native.Nat.{_<_, max};
+ghost use Rattle.model.specs.Ends.{reportRefusal, confirmed};
+ghost use Rattle.ternary.specs.Sizes.{keySize};
+ghost use Rattle.checks.specs.Refusals.{refusal as refusalAt};
+ghost use Rattle.slots.specs.Slots.{slotCount, slots};
+ghost use Rattle.slots.specs.Structs.{asSlot};
+ghost use Rattle.messages.specs.Structs.{asReport};
+ghost use Rattle.keeper.specs.Reports.{answerOf, numbered, bytesRefusal, reportAnswer, ReportTaken};
+
+// The refusal of that number, at place 0.
+fn refused(number: u32) -> ReportAnswer
+    ensures { λ r. ⌜ r ≡ answerOf (some (refusalAt number 0)) ⌝ }
+{
+    ReportAnswer::Refused(Refusal { number, place: 0 })
+}
+
+// Whether the bytes are those of a report: refusals 1, 8 and 3.
+fn check_bytes(message: &[u8]) -> ReportAnswer
+    ensures { λ r. ⌜ r ≡ answerOf (bytesRefusal (now (message .entry))) ⌝ }
+{
+    if message.len() != layout::REPORT_SIZE {
+        return refused(refusal::RAGGED);
+    }
+    if message[layout::REPORT_KIND] != layout::IS_REPORT {
+        return refused(refusal::WRONG_KIND);
+    }
+    match checks::flaw::report_flaw(message) {
+        Flaw::Clean => ReportAnswer::Taken,
+        Flaw::Spare(_) => refused(refusal::BAD_RECORD),
+        Flaw::Stray(_) => refused(refusal::BAD_RECORD),
+    }
+}
+
+// Whether the report is one of a slot of this keeper, and of an entry that it wrote: refusals 9, 10 and 11.
+fn check_slot(keeper: &[u8], x: Report) -> ReportAnswer
+    ensures { λ r. ⌜ r ≡ answerOf (numbered (reportRefusal (slots keySize (now (keeper .entry))) (asReport x))) ⌝ }
+{
+    let i = wide(x.slot);
+    if keeper.len() / layout::SLOT_SIZE <= i {
+        return refused(refusal::NO_SUCH_SLOT);
+    }
+    if x.sequence == 0 {
+        return refused(refusal::SEQUENCE_ZERO);
+    }
+    let slot = slots::slot::slot_at(keeper, i);
+    if slot.sequence < x.sequence {
+        return refused(refusal::REPORT_AHEAD);
+    }
+    ReportAnswer::Taken
+}
+
+// Whether a report is taken: refusal 4 of the keeper, then those of the message.
+pub fn may_report(keeper: &[u8], message: &[u8]) -> ReportAnswer
+    ensures { λ r. ⌜ r ≡ reportAnswer (now (keeper .entry)) (now (message .entry)) ⌝ }
+{
+    if !slots::buffer::slots_fit(keeper) {
+        return refused(refusal::BAD_SLOTS);
+    }
+    match check_bytes(message) {
+        ReportAnswer::Refused(r) => ReportAnswer::Refused(r),
+        ReportAnswer::Taken => check_slot(keeper, messages::report::report_of(message)),
+    }
+}
+
+// The larger of two numbers.
+pub fn larger(a: u32, b: u32) -> u32
+    ensures { λ r. ⌜ r ≡ max a b ⌝ }
+{
+    if a < b { b } else { a }
+}
+
+// The slot once its hits are confirmed: settled, with the larger number of hits.
+fn confirmed_slot(old: Slot, hits: u32) -> Slot
+    ensures { λ r. ⌜ asSlot r ≡ confirmed (asSlot old) hits ⌝ }
+{
+    let value = old.value;
+    let mask = old.mask;
+    Slot {
+        sequence: old.sequence,
+        hits: larger(old.hits, hits),
+        value,
+        mask,
+        action: old.action,
+        rule: old.rule,
+        settled: 1,
+        spare: old.spare,
+    }
+}
+
+// Takes a report: it settles the slot where it has the slot's sequence, and changes nothing where its sequence is older.
+pub fn take_report(keeper: &mut [u8], x: Report)
+    requires { ⌜ x .slot < slotCount keySize (now keeper) ⌝ }
+    ensures { λ _. ⌜ ReportTaken (now (keeper .entry)) (asReport x) (now (keeper .exit)) ⌝ }
+{
+    let i = wide(x.slot);
+    let old = slots::slot::slot_at(keeper, i);
+    if x.sequence == old.sequence {
+        slots::slot::put_slot(keeper, i, confirmed_slot(old, x.hits));
+    }
+}
