@@ -1,0 +1,241 @@
+-- A decision carried out is the miss's answer, and each way out of the calls. Assumes nothing.
+use mathlib.Core.Path.{_≡_, refl, sym, ap, _∙_}
+use mathlib.Core.Bool.{Bool, true, false}
+use mathlib.Core.List.{List}
+use mathlib.Core.Logic.{_≢_}
+use mathlib.Core.Option.{Option, none, some}
+use Prim.Native.Nat.{ℕ, _≤_, _<_}
+use native.Mathlib.Omega.{arith}
+use lib.Dec.{ltb, eqb}
+use lib.ListN.{length, set}
+use borrow.Author.Tests.{eqb-true, eq-eqb, ne-eqb, lt-ltb, le-ltb}
+use Rattle.model.specs.Records.{Slot, Write, Outcome, Entry, slotAt, written, entryIn, writeFor, entryAt}
+use Rattle.model.specs.Ends.{Miss, noRule, again, place, usedUp, isEmpty, missWrite}
+use Rattle.model.specs.Trace.{missOutcome}
+use Rattle.model.specs.Refusals.{ragged, badSlots, shortOutput}
+use Rattle.model.proofs.Cases.{by-cases}
+use Rattle.ternary.specs.Sizes.{keySize}
+use Rattle.buffers.specs.Parts.{splice}
+use Rattle.records.specs.Layout.{writeSize}
+use Rattle.checks.specs.Refusals.{refusal}
+use Rattle.checks.specs.declared.refusal.Refusal.{Refusal}
+use Rattle.checks.proofs.RefusalLaws.{none-first, need-none}
+use Rattle.slots.specs.Slots.{slots, putSlot, SlotPut}
+use Rattle.slots.specs.Refusals.{slotsFit, slotsRefusal}
+use Rattle.slots.proofs.FitLaws.{slots-accepted}
+use Rattle.messages.specs.Writes.{encodeWrite}
+use Rattle.messages.specs.Structs.{asWrite}
+use Rattle.outcomes.specs.Outcomes.{asOutcome}
+use Rattle.policy.specs.Refusals.{policyRefusal, keyRefusal}
+use Rattle.policy.specs.Answers.{checkAnswer, bestRefusal}
+use Rattle.policy.specs.declared.PolicyAnswer.{PolicyAnswer}
+use Rattle.policy.specs.declared.PolicyAnswer.the-variants.{Refused as BadPolicy, Rules}
+use Rattle.policy.proofs.CheckLaws.{check-refused, check-passed, passed-few}
+use Rattle.keeper.specs.Reports.{leftOf}
+use Rattle.miss.specs.Decisions.{Fine, givesWrite, deciding, missIn, DecidedAs}
+use Rattle.miss.specs.Answers.{partsRefusal, checkedOf, roomRefusal, missRefused, answerOf, outWith, MissedAs, Missed}
+use Rattle.miss.specs.Answers.{placesEntry, EntryPut, CarriedOut}
+use Rattle.miss.specs.declared.decision.Decision.{Decision}
+use Rattle.miss.specs.declared.Parts.{Parts}
+use Rattle.miss.specs.declared.Parts.the-variants.{Refused as PartRefused, Fine as PartsFine}
+use Rattle.miss.specs.declared.MissAnswer.{MissAnswer}
+use Rattle.miss.specs.declared.MissAnswer.the-variants.{Refused, Outcome as Told}
+
+-- ---- the parts that are lent
+
+module _ (policy key keeper : List ℕ) where
+  pub bad-policy : {a : PolicyAnswer} {r : Refusal} → a ≡ checkAnswer policy → a ≡ BadPolicy r
+      → PartRefused r ≡ checkedOf (partsRefusal policy key keeper)
+  unfolding partsRefusal bestRefusal
+  bad-policy {a} {r} e t = rw (check-refused policy r (sym t ∙ e))
+
+  module _ {a : PolicyAnswer} {n : ℕ} (e : a ≡ checkAnswer policy) (t : a ≡ Rules n) where
+    passed : policyRefusal policy ≡ none
+    passed = check-passed policy n (sym t ∙ e)
+
+    pub bad-key : length key ≢ keySize → PartRefused (refusal ragged 0) ≡ checkedOf (partsRefusal policy key keeper)
+    unfolding partsRefusal bestRefusal keyRefusal
+    bad-key k = rw (passed, ne-eqb (length key) keySize k)
+
+    module _ {b : Bool} (k : length key ≡ keySize) (f : b ≡ slotsFit keeper) where
+      pub bad-keeper : b ≡ false → PartRefused (refusal badSlots 0) ≡ checkedOf (partsRefusal policy key keeper)
+      unfolding partsRefusal bestRefusal keyRefusal slotsRefusal
+      bad-keeper x = rw (passed, eq-eqb (length key) keySize k, sym f ∙ x)
+
+      pub parts-fine : b ≡ true → PartsFine ≡ checkedOf (partsRefusal policy key keeper)
+      unfolding partsRefusal bestRefusal keyRefusal slotsRefusal
+      parts-fine x = rw (passed, eq-eqb (length key) keySize k, sym f ∙ x)
+
+  of-refused : (o : Option Refusal) {r : Refusal} {a : Parts} → a ≡ checkedOf o → a ≡ PartRefused r → o ≡ some r
+  of-refused (some x) e t = cc
+  of-refused none e t = let z : _≡_ {A = ℕ} 0 1 = cc in absurd (omega arith)
+
+  of-fine : (o : Option Refusal) {a : Parts} → a ≡ checkedOf o → a ≡ PartsFine → o ≡ none
+  of-fine (some x) e t = let z : _≡_ {A = ℕ} 0 1 = cc in absurd (omega arith)
+  of-fine none e t = refl
+
+  pub missed-refused : (out : List ℕ) {r : Refusal} {a : Parts} → a ≡ checkedOf (partsRefusal policy key keeper) → a ≡ PartRefused r
+      → Missed policy key keeper out (Refused r) keeper out
+  unfolding missRefused
+  missed-refused out e t =
+      let refused = of-refused (partsRefusal policy key keeper) e t in
+      record { answer = rw refused; bytes = rw refused; meaning = rw refused; given = rw refused }
+
+  fine-key : keyRefusal key ≡ none → length key ≡ keySize
+  unfolding keyRefusal
+  fine-key e = eqb-true (length key) keySize (need-none (eqb (length key) keySize) ragged none e .0)
+
+  pub fine-of : {a : Parts} → a ≡ checkedOf (partsRefusal policy key keeper) → a ≡ PartsFine → Fine policy key keeper
+  unfolding partsRefusal bestRefusal
+  fine-of e t =
+      let parts = none-first (bestRefusal policy key) (slotsRefusal keeper) (of-fine (partsRefusal policy key keeper) e t) in
+      let first = none-first (policyRefusal policy) (keyRefusal key) (parts .0) in
+      record { few = passed-few policy (first .0); long = fine-key (first .1); whole = slots-accepted keeper .0 (parts .1) }
+
+-- ---- the entry of a write
+
+module _ (keeper : List ℕ) (outcome : ℕ) (w : Write) (gives : givesWrite outcome ≡ true) where
+  pub entry-put : {i : ℕ} {s : Slot} {keeper′ : List ℕ} → outcome ≢ 5 → i ≡ w .slot → s ≡ written (entryIn w) → SlotPut keySize keeper i s keeper′
+      → EntryPut outcome w keeper keeper′
+  unfolding placesEntry
+  entry-put n e t put =
+      record {
+        bytes = rw (gives, ne-eqb outcome 5 n, ← e, ← t) (put .bytes);
+        meaning = rw (gives, ne-eqb outcome 5 n, ← e, ← t) (put .meaning);
+      }
+
+  pub entry-left : outcome ≡ 5 → EntryPut outcome w keeper keeper
+  unfolding placesEntry
+  entry-left e = record { bytes = rw (gives, eq-eqb outcome 5 e); meaning = rw (gives, eq-eqb outcome 5 e) }
+
+-- ---- a decision carried out
+
+module _ (d : Decision) (keeper out : List ℕ) where
+  abbrev o : ℕ
+  o = d .outcome .outcome
+
+  pub carried-quiet : {b : Bool} → b ≡ givesWrite o → b ≡ false → CarriedOut d keeper out (Told (d .outcome)) keeper out
+  unfolding placesEntry
+  carried-quiet e t = record { answer = rw (sym e ∙ t); bytes = rw (sym e ∙ t); meaning = rw (sym e ∙ t); given = rw (sym e ∙ t) }
+
+  module _ {b : Bool} (e : b ≡ givesWrite o) (t : b ≡ true) where
+    pub carried-short : length out < writeSize keySize → CarriedOut d keeper out (Refused (refusal shortOutput 0)) keeper out
+    carried-short l =
+        let s : ltb (length out) (writeSize keySize) ≡ true = lt-ltb (length out) (writeSize keySize) l in
+        record { answer = rw (sym e ∙ t, s); bytes = rw (sym e ∙ t, s); meaning = rw (sym e ∙ t, s); given = rw (sym e ∙ t, s) }
+
+    pub carried-given : {keeper′ out′ : List ℕ} → writeSize keySize ≤ length out → EntryPut o (asWrite (d .write)) keeper keeper′
+        → out′ ≡ splice 0 (encodeWrite (asWrite (d .write))) out → CarriedOut d keeper out (Told (d .outcome)) keeper′ out′
+    carried-given l put w =
+        let s : ltb (length out) (writeSize keySize) ≡ false = le-ltb (length out) (writeSize keySize) l in
+        record {
+          answer = rw (sym e ∙ t, s);
+          bytes = rw (sym e ∙ t, s) (put .bytes);
+          meaning = rw (sym e ∙ t, s) (put .meaning);
+          given = rw (sym e ∙ t, s) w;
+        }
+
+-- ---- so it is the miss's answer
+
+module _ (policy keeper out : List ℕ) {d : Decision} {r : MissAnswer} {keeper′ out′ : List ℕ} (c : CarriedOut d keeper out r keeper′ out′) where
+  abbrev k : List Slot
+  k = slots keySize keeper
+
+  abbrev n : ℕ
+  n = d .outcome .outcome
+
+  abbrev As : Miss → Type 0
+  As m = MissedAs policy keeper m (roomRefusal (missWrite k m) (length out)) out r keeper′ out′
+
+  number-is : {x : Outcome} → asOutcome (d .outcome) ≡ x → n ≡ x .outcome
+  number-is e = ap (λ (x : Outcome). x .outcome) e
+
+  -- outcomes 0 and 4: no write is given
+  answer-quiet : {x : Outcome} → givesWrite n ≡ false → asOutcome (d .outcome) ≡ x → r ≡ answerOf none x
+  answer-quiet g e = (rw g at (c .answer)) ∙ ap (answerOf none) e
+
+  bytes-quiet : givesWrite n ≡ false → keeper′ ≡ keeper
+  unfolding placesEntry
+  bytes-quiet g = rw g at (c .bytes)
+
+  slots-quiet : givesWrite n ≡ false → slots keySize keeper′ ≡ k
+  unfolding placesEntry
+  slots-quiet g = rw g at (c .meaning)
+
+  out-quiet : givesWrite n ≡ false → out′ ≡ out
+  out-quiet g = rw g at (c .given)
+
+  -- the others: a write is given
+  module _ (w : Write) (g : givesWrite n ≡ true) where
+    abbrev refused : Option Refusal
+    refused = roomRefusal (some w) (length out)
+
+    answer-given : {x : Outcome} → asOutcome (d .outcome) ≡ x → r ≡ answerOf refused x
+    answer-given e = (rw g at (c .answer)) ∙ ap (answerOf refused) e
+
+    out-given : asWrite (d .write) ≡ w → out′ ≡ leftOf refused out (outWith (some w) out)
+    out-given e = (rw g at (c .given)) ∙ ap (λ (x : Write). leftOf refused out (splice 0 (encodeWrite x) out)) e
+
+    -- outcome 5 leaves the keeper
+    bytes-left : placesEntry n ≡ false → keeper′ ≡ leftOf refused keeper keeper
+    bytes-left p = rw (g, p) at (c .bytes)
+
+    slots-left : placesEntry n ≡ false → slots keySize keeper′ ≡ leftOf refused k k
+    slots-left p = rw (g, p) at (c .meaning)
+
+    -- outcomes 2 and 3 place the entry
+    bytes-placed : placesEntry n ≡ true → asWrite (d .write) ≡ w
+        → keeper′ ≡ leftOf refused keeper (putSlot keySize keeper (w .slot) (written (entryIn w)))
+    bytes-placed p e =
+        (rw (g, p) at (c .bytes)) ∙ ap (λ (x : Write). leftOf refused keeper (putSlot keySize keeper (x .slot) (written (entryIn x)))) e
+
+    slots-placed : placesEntry n ≡ true → asWrite (d .write) ≡ w
+        → slots keySize keeper′ ≡ leftOf refused k (set k (w .slot) (written (entryIn w)))
+    slots-placed p e =
+        (rw (g, p) at (c .meaning)) ∙ ap (λ (x : Write). leftOf refused k (set k (x .slot) (written (entryIn x)))) e
+
+  silent : (number : ℕ) → givesWrite number ≡ false → n ≡ number → givesWrite n ≡ false
+  silent number g e = rw e g
+
+  -- the outcome of an entry that is placed is 2 or 3
+  placed-number : (i : ℕ) (x : Entry) → asOutcome (d .outcome) ≡ missOutcome (deciding policy) k (place i x)
+      → (givesWrite n ≡ true) × (placesEntry n ≡ true)
+  unfolding placesEntry givesWrite
+  placed-number i x h =
+      by-cases (isEmpty (slotAt k i))
+      (λ t. let e : n ≡ 2 = number-is h ∙ rw t in rw e (refl, refl))
+      (λ t. let e : n ≡ 3 = number-is h ∙ rw t in rw e (refl, refl))
+
+  pub missed-as : (m : Miss) → DecidedAs policy keeper m d → As m
+  unfolding placesEntry givesWrite
+  missed-as noRule is =
+      let g : givesWrite n ≡ false = silent 0 refl (number-is (is .outcome)) in
+      record { answer = answer-quiet g (is .outcome); bytes = bytes-quiet g; meaning = slots-quiet g; given = out-quiet g }
+  missed-as (again i) is =
+      let w : Write = writeFor i (entryAt k i) in
+      let e : n ≡ 5 = number-is (is .outcome) in
+      let g : givesWrite n ≡ true = rw e in
+      let p : placesEntry n ≡ false = rw e in
+      record {
+        answer = answer-given w g (is .outcome);
+        bytes = bytes-left w g p;
+        meaning = slots-left w g p;
+        given = out-given w g (is .write);
+      }
+  missed-as (place i x) is =
+      let w : Write = writeFor i x in
+      let h = placed-number i x (is .outcome) in
+      record {
+        answer = answer-given w (h .0) (is .outcome);
+        bytes = bytes-placed w (h .0) (h .1) (is .write);
+        meaning = slots-placed w (h .0) (h .1) (is .write);
+        given = out-given w (h .0) (is .write);
+      }
+  missed-as (usedUp rule) is =
+      let g : givesWrite n ≡ false = silent 4 refl (number-is (is .outcome)) in
+      record { answer = answer-quiet g (is .outcome); bytes = bytes-quiet g; meaning = slots-quiet g; given = out-quiet g }
+
+  pub missed : (key : List ℕ) {a : Parts} → a ≡ checkedOf (partsRefusal policy key keeper) → a ≡ PartsFine
+      → DecidedAs policy keeper (missIn policy key keeper) d → Missed policy key keeper out r keeper′ out′
+  unfolding missRefused
+  missed key e t is = rw (of-fine policy key keeper (partsRefusal policy key keeper) e t) (missed-as (missIn policy key keeper) is)
