@@ -1,4 +1,3 @@
 -- What the keeper's calls answer, and what they leave in its buffer.
 pub mod Reports
 pub mod Opens
-pub mod Room

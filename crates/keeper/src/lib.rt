@@ -1,13 +1,11 @@
-// The keeper: the agent's end, with the whole policy.
+// The keeper receives a report, and lists its open slots.
 use checks::refusal;
 use checks::refusal::Refusal;
 ghost use Rattle.keeper.specs.Reports.{Reported};
 ghost use Rattle.keeper.specs.Opens.{Opened};
 
-pub mod fields;
 pub mod opened;
 pub mod reports;
-pub mod room;
 
 // A report's refusal, or that it was taken.
 pub enum ReportAnswer {

@@ -1,13 +1,26 @@
 // The open slots of the keeper.
-use crate::fields;
 use cover::numbers::Numbers;
 use records::layout;
-ghost use Prim.Native.Nat.{_≤_};
-ghost use Rattle.model.specs.Ends.{openList};
+use room::fields;
+ghost use mathlib.Core.Path.{_≡_};
+ghost use Prim.Native.Nat.{_≤_, _<_};
+ghost use Rattle.model.specs.Records.{slotAt};
+ghost use Rattle.model.specs.Ends.{isOpen, openList};
 ghost use Rattle.ternary.specs.Sizes.{keySize};
 ghost use Rattle.records.specs.Layout.{mostSlots};
 ghost use Rattle.slots.specs.Slots.{slotCount, slots};
 ghost use Rattle.cover.specs.Numbers.{Lists};
+
+// Whether the i-th slot is open: not empty, and not settled.
+fn is_open(keeper: &[u8], i: usize) -> bool
+    requires { ⌜ i < slotCount keySize (now keeper) ⌝ }
+    ensures { λ r. ⌜ r ≡ isOpen (slotAt (slots keySize (now (keeper .entry))) i) ⌝ }
+{
+    if fields::sequence_at(keeper, i) == 0 {
+        return false;
+    }
+    keeper[layout::SLOT_SIZE * i + layout::SLOT_SETTLED] != 1
+}
 
 // The numbers of the open slots, rising.
 pub fn open_slots(keeper: &[u8]) -> Numbers
@@ -19,7 +32,7 @@ pub fn open_slots(keeper: &[u8]) -> Numbers
     let n = keeper.len() / layout::SLOT_SIZE;
     let mut i = 0;
     while i < n {
-        if fields::is_open(keeper, i) {
+        if is_open(keeper, i) {
             items[count] = i as u16;
             count += 1;
         }

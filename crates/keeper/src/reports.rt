@@ -9,7 +9,7 @@ use records::layout;
 use slots::slot::Slot;
 ghost use mathlib.Core.Path.{_≡_};
 ghost use mathlib.Core.Option.{some};
-ghost use Prim.Native.Nat.{_<_, max};
+ghost use Prim.Native.Nat.{_<_};
 ghost use Rattle.model.specs.Ends.{reportRefusal, confirmed};
 ghost use Rattle.ternary.specs.Sizes.{keySize};
 ghost use Rattle.checks.specs.Refusals.{refusal as refusalAt};
@@ -73,13 +73,6 @@ pub fn may_report(keeper: &[u8], message: &[u8]) -> ReportAnswer
     }
 }
 
-// The larger of two numbers.
-pub fn larger(a: u32, b: u32) -> u32
-    ensures { λ r. ⌜ r ≡ max a b ⌝ }
-{
-    if a < b { b } else { a }
-}
-
 // The slot once its hits are confirmed: settled, with the larger number of hits.
 fn confirmed_slot(old: Slot, hits: u32) -> Slot
     ensures { λ r. ⌜ asSlot r ≡ confirmed (asSlot old) hits ⌝ }
@@ -88,7 +81,7 @@ fn confirmed_slot(old: Slot, hits: u32) -> Slot
     let mask = old.mask;
     Slot {
         sequence: old.sequence,
-        hits: larger(old.hits, hits),
+        hits: room::larger(old.hits, hits),
         value,
         mask,
         action: old.action,

@@ -20,22 +20,23 @@ use Rattle.records.specs.Layout.{writeSize}
 use Rattle.checks.specs.Refusals.{refusal}
 use Rattle.checks.specs.declared.refusal.Refusal.{Refusal}
 use Rattle.checks.proofs.RefusalLaws.{none-first, need-none}
-use Rattle.slots.specs.Slots.{slots, putSlot, SlotPut}
+use Rattle.slots.specs.Slots.{slots, putSlot}
 use Rattle.slots.specs.Refusals.{slotsFit, slotsRefusal}
 use Rattle.slots.proofs.FitLaws.{slots-accepted}
 use Rattle.messages.specs.Writes.{encodeWrite}
 use Rattle.messages.specs.Structs.{asWrite}
 use Rattle.outcomes.specs.Outcomes.{asOutcome}
+use Rattle.entries.specs.Puts.{EntryPut}
 use Rattle.policy.specs.Refusals.{policyRefusal, keyRefusal}
 use Rattle.policy.specs.Answers.{checkAnswer, bestRefusal}
 use Rattle.policy.specs.declared.PolicyAnswer.{PolicyAnswer}
 use Rattle.policy.specs.declared.PolicyAnswer.the-variants.{Refused as BadPolicy, Rules}
 use Rattle.policy.proofs.CheckLaws.{check-refused, check-passed, passed-few}
 use Rattle.keeper.specs.Reports.{leftOf}
-use Rattle.miss.specs.Decisions.{Fine, givesWrite, deciding, missIn, DecidedAs}
-use Rattle.miss.specs.Answers.{partsRefusal, checkedOf, roomRefusal, missRefused, answerOf, outWith, MissedAs, Missed}
-use Rattle.miss.specs.Answers.{placesEntry, EntryPut, CarriedOut}
-use Rattle.miss.specs.declared.decision.Decision.{Decision}
+use Rattle.verdict.specs.Decisions.{Fine, givesWrite, deciding, missIn, DecidedAs}
+use Rattle.miss.specs.Answers.{partsRefusal, checkedOf, roomRefusal, missRefused, answerOf, outWith, MissedAs, OnMiss, Missed}
+use Rattle.miss.specs.Answers.{placesEntry, EntryPlaced, CarriedOut}
+use Rattle.verdict.specs.declared.Decision.{Decision}
 use Rattle.miss.specs.declared.Parts.{Parts}
 use Rattle.miss.specs.declared.Parts.the-variants.{Refused as PartRefused, Fine as PartsFine}
 use Rattle.miss.specs.declared.MissAnswer.{MissAnswer}
@@ -95,16 +96,15 @@ module _ (policy key keeper : List ℕ) where
 -- ---- the entry of a write
 
 module _ (keeper : List ℕ) (outcome : ℕ) (w : Write) (gives : givesWrite outcome ≡ true) where
-  pub entry-put : {i : ℕ} {s : Slot} {keeper′ : List ℕ} → outcome ≢ 5 → i ≡ w .slot → s ≡ written (entryIn w) → SlotPut keySize keeper i s keeper′
-      → EntryPut outcome w keeper keeper′
+  pub entry-placed : {s : Slot} {keeper′ : List ℕ} → outcome ≢ 5 → EntryPut keeper w s keeper′ → EntryPlaced outcome w keeper keeper′
   unfolding placesEntry
-  entry-put n e t put =
+  entry-placed n p =
       record {
-        bytes = rw (gives, ne-eqb outcome 5 n, ← e, ← t) (put .bytes);
-        meaning = rw (gives, ne-eqb outcome 5 n, ← e, ← t) (put .meaning);
+        bytes = rw (gives, ne-eqb outcome 5 n, ← p .slot) (p .put .bytes);
+        meaning = rw (gives, ne-eqb outcome 5 n, ← p .slot) (p .put .meaning);
       }
 
-  pub entry-left : outcome ≡ 5 → EntryPut outcome w keeper keeper
+  pub entry-left : outcome ≡ 5 → EntryPlaced outcome w keeper keeper
   unfolding placesEntry
   entry-left e = record { bytes = rw (gives, eq-eqb outcome 5 e); meaning = rw (gives, eq-eqb outcome 5 e) }
 
@@ -124,7 +124,7 @@ module _ (d : Decision) (keeper out : List ℕ) where
         let s : ltb (length out) (writeSize keySize) ≡ true = lt-ltb (length out) (writeSize keySize) l in
         record { answer = rw (sym e ∙ t, s); bytes = rw (sym e ∙ t, s); meaning = rw (sym e ∙ t, s); given = rw (sym e ∙ t, s) }
 
-    pub carried-given : {keeper′ out′ : List ℕ} → writeSize keySize ≤ length out → EntryPut o (asWrite (d .write)) keeper keeper′
+    pub carried-given : {keeper′ out′ : List ℕ} → writeSize keySize ≤ length out → EntryPlaced o (asWrite (d .write)) keeper keeper′
         → out′ ≡ splice 0 (encodeWrite (asWrite (d .write))) out → CarriedOut d keeper out (Told (d .outcome)) keeper′ out′
     carried-given l put w =
         let s : ltb (length out) (writeSize keySize) ≡ false = le-ltb (length out) (writeSize keySize) l in
@@ -235,7 +235,8 @@ module _ (policy keeper out : List ℕ) {d : Decision} {r : MissAnswer} {keeper�
       let g : givesWrite n ≡ false = silent 4 refl (number-is (is .outcome)) in
       record { answer = answer-quiet g (is .outcome); bytes = bytes-quiet g; meaning = slots-quiet g; given = out-quiet g }
 
-  pub missed : (key : List ℕ) {a : Parts} → a ≡ checkedOf (partsRefusal policy key keeper) → a ≡ PartsFine
-      → DecidedAs policy keeper (missIn policy key keeper) d → Missed policy key keeper out r keeper′ out′
-  unfolding missRefused
-  missed key e t is = rw (of-fine policy key keeper (partsRefusal policy key keeper) e t) (missed-as (missIn policy key keeper) is)
+-- a call whose parts are fine is the call without its checks
+pub missed : (policy key keeper out : List ℕ) {a : Parts} {r : MissAnswer} {keeper′ out′ : List ℕ} → a ≡ checkedOf (partsRefusal policy key keeper)
+    → a ≡ PartsFine → OnMiss policy key keeper out r keeper′ out′ → Missed policy key keeper out r keeper′ out′
+unfolding missRefused
+missed policy key keeper out e t is = rw (of-fine policy key keeper (partsRefusal policy key keeper) e t) is

@@ -1,3 +1,2 @@
--- Laws of a miss at the keeper: its decision, and the decision carried out.
-pub mod DecisionLaws
+-- Laws of a miss that arrives at the keeper.
 pub mod AnswerLaws

@@ -23,8 +23,8 @@ use Rattle.outcomes.specs.Outcomes.{asOutcome}
 use Rattle.outcomes.specs.declared.Outcome.{Outcome as OutcomeStruct}
 use Rattle.policy.specs.Answers.{bestRefusal}
 use Rattle.keeper.specs.Reports.{leftOf}
-use Rattle.miss.specs.Decisions.{givesWrite, deciding, missIn}
-use Rattle.miss.specs.declared.decision.Decision.{Decision}
+use Rattle.verdict.specs.Decisions.{givesWrite, deciding, missIn}
+use Rattle.verdict.specs.declared.Decision.{Decision}
 use Rattle.miss.specs.declared.Parts.{Parts}
 use Rattle.miss.specs.declared.Parts.the-variants.{Refused as PartRefused, Fine}
 use Rattle.miss.specs.declared.MissAnswer.{MissAnswer}
@@ -80,6 +80,12 @@ pub record MissedAs (policy keeper : List ℕ) (m : Miss) (refused : Option Refu
   pub meaning : slots keySize keeper′ ≡ leftOf refused (slots keySize keeper) (missKeeper (slots keySize keeper) m)
   pub given : out′ ≡ leftOf refused out (outWith (missWrite (slots keySize keeper) m) out)
 
+-- the call without its checks
+abbrev pub OnMiss : List ℕ → List ℕ → List ℕ → List ℕ → MissAnswer → List ℕ → List ℕ → Type 0
+OnMiss policy key keeper out r keeper′ out′ =
+    let m = missIn policy key keeper in
+    MissedAs policy keeper m (roomRefusal (missWrite (slots keySize keeper) m) (length out)) out r keeper′ out′
+
 -- the whole call
 abbrev pub Missed : List ℕ → List ℕ → List ℕ → List ℕ → MissAnswer → List ℕ → List ℕ → Type 0
 Missed policy key keeper out r keeper′ out′ =
@@ -96,7 +102,7 @@ abbrev pub shortRefusal : ℕ → ℕ → Option Refusal
 shortRefusal outcome room = need (not (givesWrite outcome && ltb room (writeSize keySize))) shortOutput none
 
 -- the entry of the write goes into its slot, where one is placed
-pub record EntryPut (outcome : ℕ) (w : Write) (keeper keeper′ : List ℕ) : Type 0 where
+pub record EntryPlaced (outcome : ℕ) (w : Write) (keeper keeper′ : List ℕ) : Type 0 where
   pub bytes : keeper′ ≡ cond (placesEntry outcome) (putSlot keySize keeper (w .slot) (written (entryIn w))) keeper
   pub meaning : slots keySize keeper′
       ≡ cond (placesEntry outcome) (set (slots keySize keeper) (w .slot) (written (entryIn w))) (slots keySize keeper)

@@ -1,3 +1,2 @@
--- What a miss comes to at the keeper: by value, and in the buffers.
-pub mod Decisions
+-- What the keeper answers to a miss, and what it leaves in the buffers.
 pub mod Answers

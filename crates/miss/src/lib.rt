@@ -1,25 +1,18 @@
 // A miss arrives at the keeper: what it comes to, and the write that is given.
-use crate::decision::Decision;
 use checks::refusal;
 use checks::refusal::Refusal;
-use cover::numbers::wide;
 use messages::write::Write;
 use outcomes::Outcome;
 use records::layout;
-use slots::slot::Slot;
+use verdict::Decision;
 ghost use mathlib.Core.Path.{_≡_};
 ghost use mathlib.Core.Bool.{true};
 ghost use Prim.Native.Nat.{_<_};
-ghost use Rattle.model.specs.Records.{written, entryIn};
 ghost use Rattle.ternary.specs.Sizes.{keySize};
 ghost use Rattle.slots.specs.Slots.{slotCount};
-ghost use Rattle.slots.specs.Structs.{asSlot};
 ghost use Rattle.messages.specs.Structs.{asWrite};
-ghost use Rattle.miss.specs.Decisions.{givesWrite};
-ghost use Rattle.miss.specs.Answers.{checkedOf, partsRefusal, EntryPut, CarriedOut, Missed};
-
-pub mod decision;
-pub mod kinds;
+ghost use Rattle.verdict.specs.Decisions.{Fine, givesWrite};
+ghost use Rattle.miss.specs.Answers.{checkedOf, partsRefusal, EntryPlaced, CarriedOut, OnMiss, Missed};
 
 // A miss's refusal, or its outcome.
 pub enum MissAnswer {
@@ -55,31 +48,13 @@ fn check_parts(policy: &[u8], key: &[u8], keeper: &[u8]) -> Parts
     Parts::Fine
 }
 
-// The slot just after the write's entry was written into it.
-fn slot_written(x: Write) -> Slot
-    ensures { λ r. ⌜ asSlot r ≡ written (entryIn (asWrite x)) ⌝ }
-{
-    let value = x.value;
-    let mask = x.mask;
-    Slot {
-        sequence: x.sequence,
-        hits: 0,
-        value,
-        mask,
-        action: x.action,
-        rule: x.rule,
-        settled: 0,
-        spare: 0,
-    }
-}
-
 // Puts the write's entry into its slot, unless the outcome is that the write is given again.
-fn put_entry(keeper: &mut [u8], outcome: u8, x: Write)
+fn place_entry(keeper: &mut [u8], outcome: u8, x: Write)
     requires { ⌜ (x .slot < slotCount keySize (now keeper)) × (givesWrite outcome ≡ true) ⌝ }
-    ensures { λ _. ⌜ EntryPut outcome (asWrite x) (now (keeper .entry)) (now (keeper .exit)) ⌝ }
+    ensures { λ _. ⌜ EntryPlaced outcome (asWrite x) (now (keeper .entry)) (now (keeper .exit)) ⌝ }
 {
-    if outcome != kinds::AGAIN {
-        slots::slot::put_slot(keeper, wide(x.slot), slot_written(x));
+    if outcome != verdict::kinds::AGAIN {
+        entries::put_entry(keeper, x);
     }
 }
 
@@ -90,7 +65,7 @@ fn carry_out(d: Decision, keeper: &mut [u8], out: &mut [u8]) -> MissAnswer
 {
     let outcome = d.outcome;
     let write = d.write;
-    if !kinds::gives_write(outcome.outcome) {
+    if !verdict::kinds::gives_write(outcome.outcome) {
         return MissAnswer::Outcome(outcome);
     }
     if out.len() < layout::WRITE_SIZE {
@@ -99,9 +74,18 @@ fn carry_out(d: Decision, keeper: &mut [u8], out: &mut [u8]) -> MissAnswer
             place: 0,
         });
     }
-    put_entry(keeper, outcome.outcome, write);
+    place_entry(keeper, outcome.outcome, write);
     messages::write::put_write(out, write);
     MissAnswer::Outcome(outcome)
+}
+
+// A miss whose parts are not refused: decided, and carried out. Refusal 5 changes nothing.
+pub fn on_miss(policy: &[u8], key: &[u8], keeper: &mut [u8], out: &mut [u8]) -> MissAnswer
+    requires { ⌜ Fine (now policy) (now key) (now keeper) ⌝ }
+    ensures { λ r. ⌜ OnMiss (now (policy .entry)) (now (key .entry)) (now (keeper .entry)) (now (out .entry)) r
+        (now (keeper .exit)) (now (out .exit)) ⌝ }
+{
+    carry_out(verdict::decide(policy, key, keeper), keeper, out)
 }
 
 // A miss arrives: refusals 1, 2 and 3 of the policy, 1 of the key, 4 of the keeper, then 5; a refusal changes nothing.
@@ -112,5 +96,5 @@ pub fn miss(policy: &[u8], key: &[u8], keeper: &mut [u8], out: &mut [u8]) -> Mis
     if let Parts::Refused(refusal) = check_parts(policy, key, keeper) {
         return MissAnswer::Refused(refusal);
     }
-    carry_out(decision::decide(policy, key, keeper), keeper, out)
+    on_miss(policy, key, keeper, out)
 }

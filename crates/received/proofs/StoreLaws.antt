@@ -10,8 +10,9 @@ use borrow.Author.Tests.{lt-ltb, le-ltb}
 use Rattle.model.specs.Records.{Slot, Write, slotAt, cleared, entryIn, written}
 use Rattle.model.specs.Ends.{isNewer, afterWrite}
 use Rattle.ternary.specs.Sizes.{keySize}
-use Rattle.slots.specs.Slots.{slotCount, slotIn, slots, SlotPut}
+use Rattle.slots.specs.Slots.{slotCount, slotIn, slots}
 use Rattle.slots.proofs.SlotLaws.{slot-count, slot-at}
+use Rattle.entries.specs.Puts.{EntryPut}
 use Rattle.received.specs.Stores.{Stored}
 
 module _ (table : List ℕ) (w : Write) (old : Slot) where
@@ -26,13 +27,13 @@ module _ (table : List ℕ) (w : Write) (old : Slot) where
 
   -- it is greater
   pub stored-new : (new : Slot) (after : List ℕ) → w .slot < slotCount keySize table → old ≡ slotIn keySize table (w .slot)
-      → old .sequence < w .sequence → new ≡ written (entryIn w) → SlotPut keySize table (w .slot) new after → Stored table w new after
+      → old .sequence < w .sequence → EntryPut table w new after → Stored table w new after
   unfolding afterWrite
-  stored-new new after l e lt n put =
+  stored-new new after l e lt p =
       let there : old ≡ slotAt (slots keySize table) (w .slot) = e ∙ sym (slot-at keySize table (w .slot) l) in
       let newer : isNewer (slots keySize table) w ≡ true = rw (← there) (lt-ltb (old .sequence) (w .sequence) lt) in
       let inside : w .slot < length (slots keySize table) = omega (arith, slot-count keySize table) in
       record {
-        slot = rw newer (n ∙ sym (getD-set-same (slots keySize table) (w .slot) (written (entryIn w)) (cleared 0) inside));
-        meaning = rw newer (rw n at (put .meaning));
+        slot = rw newer (p .slot ∙ sym (getD-set-same (slots keySize table) (w .slot) (written (entryIn w)) (cleared 0) inside));
+        meaning = rw newer (rw (p .slot) at (p .put .meaning));
       }

@@ -7,15 +7,16 @@ use Rattle.miss.proofs.miss.Tie as tie
 returns : tie.Need-returns
 returns c = missed-refused _ _ _ _ (c .before .before .before .check-parts .ensures) (c .before .refusal .given .1)
 
-decide-requires : tie.Need-decide-requires
-decide-requires c κs = fine-of _ _ _ (c .before .before .before .check-parts .ensures) (c .before .enum-told .given .1)
+on-miss-requires : tie.Need-on-miss-requires
+on-miss-requires c κs =
+    let t = c .before .before in
+    fine-of _ _ _ (t .before .before .check-parts .ensures) (t .enum-told .given .1)
 
 returns-2 : tie.Need-returns-2
 returns-2 c =
     let o = c .before .before .before .before in
-    let d = o .before .before .before in
-    let t = d .before .before in
-    missed _ _ _ (o .carry-out .ensures) _ (t .before .before .check-parts .ensures) (t .enum-told .given .1) (d .decide .ensures)
+    let t = o .before .before .before in
+    missed _ _ _ _ (t .before .before .check-parts .ensures) (t .enum-told .given .1) (o .on-miss .ensures)
 
 pub miss-spec : {M : Type 1} → statement M
 miss-spec =
@@ -26,8 +27,7 @@ miss-spec =
     (λ c. search needs)
     returns
     (λ c. search needs)
-    decide-requires
-    (λ c. search needs)
+    on-miss-requires
     (λ c. search needs)
     (λ c. search needs)
     returns-2)

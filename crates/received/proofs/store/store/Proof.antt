@@ -13,10 +13,10 @@ returns c =
 
 returns-2 : tie.Need-returns-2
 returns-2 c =
-    let k = c .before .before .before .before in
-    let n = k .before .before .before .before in
+    let k = c .before .before in
+    let n = k .before .before .before .before .before in
     stored-new _ _ (asSlot (n .slot-at .result)) _ _ (n .before .before .before .before .pre) (n .slot-at .ensures)
-    (omega (arith, k .before .if1 .left)) (k .written .ensures) (c .before .before .put-slot .ensures)
+    (omega (arith, k .before .before .if1 .left)) (k .put-entry .ensures)
 
 pub store-spec : {M : Type 1} → statement M
 store-spec =
@@ -26,7 +26,6 @@ store-spec =
     (λ c. search needs)
     (λ c. search needs)
     returns
-    (λ c. search needs)
     (λ c. search needs)
     (λ c. search needs)
     returns-2)

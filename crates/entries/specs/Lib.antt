@@ -1,0 +1,2 @@
+-- What it is to put an entry into its slot.
+pub mod Puts

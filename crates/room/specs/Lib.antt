@@ -1,0 +1,2 @@
+-- The room for a new entry.
+pub mod Room

@@ -1,0 +1,165 @@
+-- What each branch of a miss's decision comes to. Assumes nothing.
+use mathlib.Core.Path.{_≡_, refl, sym, ap, _∙_}
+use mathlib.Core.List.{List}
+use mathlib.Core.Logic.{_≢_}
+use mathlib.Core.Option.{Option, none, some}
+use Prim.Native.Nat.{ℕ, suc, _<_}
+use native.Mathlib.Omega.{arith}
+use lib.ListN.{length}
+use borrow.Author.Tests.{eq-eqb, ne-eqb}
+use Rattle.model.specs.Records.{Slot, Write, slotAt, writeFor}
+use Rattle.model.specs.Policy.{Rule as PolicyRule, ruleAt, before, ruleMatches, best}
+use Rattle.model.specs.Isolate.{Isolated, isolate}
+use Rattle.model.specs.Ends.{firstFor, top, largest, roomIn, again, onMiss, nextEntry}
+use Rattle.model.specs.Trace.{nothing}
+use Rattle.model.proofs.OrderLaws.{foremost-some}
+use Rattle.model.proofs.Slots.{found, roomIn-lt}
+use Rattle.ternary.specs.Sizes.{keySize, positions}
+use Rattle.records.specs.Rules.{rules}
+use Rattle.records.proofs.RuleLaws.{rule-count}
+use Rattle.slots.specs.Slots.{slotCount, slotIn, slots}
+use Rattle.slots.specs.Refusals.{WholeSlots}
+use Rattle.slots.specs.Holding.{holdingOf}
+use Rattle.slots.specs.declared.matching.Holding.{Holding}
+use Rattle.slots.specs.declared.matching.Holding.the-variants.{Nowhere, At}
+use Rattle.slots.proofs.SlotLaws.{slot-count, slot-at}
+use Rattle.slots.proofs.HoldingLaws.{found-nowhere, found-at}
+use Rattle.messages.specs.Structs.{asWrite}
+use Rattle.outcomes.specs.Outcomes.{asOutcome}
+use Rattle.policy.specs.Best.{foundOf, bestFound}
+use Rattle.policy.specs.declared.BestFound.{BestFound}
+use Rattle.policy.specs.declared.BestFound.the-variants.{NoRule, Rule}
+use Rattle.verdict.specs.Decisions.{Fine, RuleFor, deciding, missWith, placeMiss, ruleMiss, missIn, DecidedAs, NoWrite, placedOutcome}
+use Rattle.verdict.specs.declared.Decision.{Decision}
+
+-- ---- slot i
+
+module _ (keeper : List ℕ) {i : ℕ} {old : Slot} (l : i < slotCount keySize keeper) (is : old ≡ slotIn keySize keeper i) where
+  abbrev k : List Slot
+  k = slots keySize keeper
+
+  there : slotAt k i ≡ old
+  there = slot-at keySize keeper i l ∙ sym is
+
+  -- its write again
+  pub again-decided : (policy : List ℕ) → DecidedAs policy keeper (again i)
+      (record {
+        outcome = record { outcome = 5; action = old .action; rule = old .rule; slot = i; evicted = nothing };
+        write = record {
+          slot = i;
+          sequence = old .sequence;
+          value = old .value;
+          mask = old .mask;
+          action = old .action;
+          rule = old .rule;
+        };
+      })
+  again-decided policy = record { outcome = rw there; write = rw there; inside = l }
+
+  -- an entry written to it
+  pub placed-empty : {action rule : ℕ} → old .sequence ≡ 0
+      → record { outcome = 2; action = action; rule = rule; slot = i; evicted = nothing } ≡ placedOutcome k i action rule
+  placed-empty e = rw (there, eq-eqb (old .sequence) 0 e)
+
+  pub placed-over : {action rule : ℕ} → old .sequence ≢ 0
+      → record { outcome = 3; action = action; rule = rule; slot = i; evicted = old .rule } ≡ placedOutcome k i action rule
+  placed-over n = rw (there, ne-eqb (old .sequence) 0 n)
+
+-- ---- the rule
+
+module _ (policy key keeper : List ℕ) where
+  abbrev ks : List Slot
+  ks = slots keySize keeper
+
+  pub room-inside : {i : ℕ} → WholeSlots keeper → i ≡ roomIn ks → i < slotCount keySize keeper
+  room-inside whole e = omega (arith, roomIn-lt ks (omega (arith, whole .some-there, slot-count keySize keeper)), slot-count keySize keeper)
+
+  -- a decision without a write
+  pub used-up : {number action last : ℕ} {d : Decision} → RuleFor policy key number action → WholeSlots keeper → last ≡ largest ks → last ≡ top
+      → NoWrite 4 action number d → DecidedAs policy keeper (missWith policy key keeper (some number) none) d
+  used-up {number} rule whole e t is =
+      rw (eq-eqb (largest ks) top (sym e ∙ t))
+      (record {
+        outcome = is .told ∙ ap (λ (a : ℕ). record { outcome = 4; action = a; rule = number; slot = nothing; evicted = nothing }) (rule .acts);
+        write = tt;
+        inside = omega (arith, is .slot-0, whole .some-there);
+      })
+
+  pub not-used-up : {number last : ℕ} {d : Decision} → last ≡ largest ks → last ≢ top
+      → DecidedAs policy keeper (placeMiss policy key keeper number) d
+      → DecidedAs policy keeper (missWith policy key keeper (some number) none) d
+  not-used-up e n is = rw (ne-eqb (largest ks) top (λ t. n (e ∙ t))) is
+
+  pub held : (number : ℕ) {i : ℕ} {h : Holding} {d : Decision} → h ≡ holdingOf (firstFor positions ks key) → h ≡ At i
+      → DecidedAs policy keeper (again i) d → DecidedAs policy keeper (ruleMiss policy key keeper number) d
+  held number {i} e t is = rw (found-at (firstFor positions ks key) i (sym t ∙ e)) is
+
+  pub held-inside : {i : ℕ} {h : Holding} → h ≡ holdingOf (firstFor positions ks key) → h ≡ At i → i < slotCount keySize keeper
+  held-inside {i} e t =
+      omega (arith, found positions ks key i (found-at (firstFor positions ks key) i (sym t ∙ e)) .inside, slot-count keySize keeper)
+
+  pub not-held : (number : ℕ) {h : Holding} {d : Decision} → h ≡ holdingOf (firstFor positions ks key) → h ≡ Nowhere
+      → DecidedAs policy keeper (missWith policy key keeper (some number) none) d → DecidedAs policy keeper (ruleMiss policy key keeper number) d
+  not-held number e t is = rw (found-nowhere (firstFor positions ks key) (sym t ∙ e)) is
+
+  -- ---- the best rule
+
+  abbrev pol : List PolicyRule
+  pol = rules keySize policy
+
+  none-of : (o : Option ℕ) → foundOf pol o ≡ NoRule → o ≡ none
+  none-of none e = refl
+  none-of (some i) e = let z : _≡_ {A = ℕ} 0 1 = cc in absurd (omega arith)
+
+  rule-of : (o : Option ℕ) {number action : ℕ} → foundOf pol o ≡ Rule number action → (o ≡ some number) × (action ≡ (ruleAt pol number) .action)
+  rule-of none e = let z : _≡_ {A = ℕ} 0 1 = cc in absurd (omega arith)
+  rule-of (some i) {number} {action} e =
+      let same : i ≡ number = cc in
+      let acts : (ruleAt pol i) .action ≡ action = cc in
+      (ap some same, sym (rw same at acts))
+
+  pub no-rule : {b : BestFound} {d : Decision} → Fine policy key keeper → b ≡ bestFound policy key → b ≡ NoRule → NoWrite 0 0 nothing d
+      → DecidedAs policy keeper (missIn policy key keeper) d
+  unfolding bestFound onMiss
+  no-rule fine e t is =
+      rw (none-of (best positions pol key) (sym e ∙ t))
+      (record { outcome = is .told; write = tt; inside = omega (arith, is .slot-0, fine .whole .some-there) })
+
+  pub rule-for : {b : BestFound} {number action : ℕ} → Fine policy key keeper → b ≡ bestFound policy key → b ≡ Rule number action
+      → RuleFor policy key number action
+  unfolding bestFound best
+  rule-for {b} {number} fine e t =
+      let is = rule-of (best positions pol key) (sym e ∙ t) in
+      record {
+        ready = record {
+          low = omega (arith, foremost-some (ruleMatches positions pol key) (before pol) (length pol) number (is .0) .0, rule-count keySize policy);
+          few = fine .few;
+          long = fine .long;
+          is-best = is .0;
+        };
+        acts = is .1;
+      }
+
+  pub has-rule : {number action : ℕ} {d : Decision} → RuleFor policy key number action
+      → DecidedAs policy keeper (ruleMiss policy key keeper number) d → DecidedAs policy keeper (missIn policy key keeper) d
+  unfolding onMiss
+  has-rule rule is = rw (rule .ready .is-best) is
+
+  -- ---- an entry is placed
+
+  pub place-decided : {number number′ action sequence i : ℕ} {x : Isolated} {d : Decision} → RuleFor policy key number action → WholeSlots keeper
+      → sequence ≡ suc (largest ks) → number′ ≡ number → x ≡ isolate positions pol key number′ → i ≡ roomIn ks
+      → asOutcome (d .outcome) ≡ placedOutcome ks i action number
+      → asWrite (d .write) ≡ record { slot = i; sequence = sequence; value = x .value; mask = x .mask; action = action; rule = number }
+      → DecidedAs policy keeper (placeMiss policy key keeper number) d
+  place-decided {number} {number′} {action} {sequence} {i} {x} {d} rule whole s n e r o w =
+      let pattern : x ≡ isolate positions pol key number = e ∙ ap (isolate positions pol key) n in
+      let told : asOutcome (d .outcome) ≡ placedOutcome ks (roomIn ks) ((ruleAt pol number) .action) number = rw (← r, ← rule .acts) o in
+      let given : asWrite (d .write) ≡ writeFor (roomIn ks) (nextEntry (deciding policy) ks key number) =
+      w ∙ rw (r, s, pattern, rule .acts)
+      in
+      record {
+        outcome = told;
+        write = given;
+        inside = omega (arith, ap (λ (v : Write). v .slot) w, room-inside whole r);
+      }

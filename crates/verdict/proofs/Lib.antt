@@ -1,0 +1,2 @@
+-- Laws of the decision on a miss.
+pub mod DecisionLaws

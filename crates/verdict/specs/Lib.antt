@@ -1,0 +1,2 @@
+-- What a miss comes to, by value.
+pub mod Decisions

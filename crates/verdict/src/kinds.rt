@@ -1,0 +1,28 @@
+// The outcomes of a miss.
+ghost use mathlib.Core.Path.{_≡_};
+ghost use Rattle.verdict.specs.Decisions.{givesWrite};
+
+// No rule.
+pub const NO_RULE: u8 = 0;
+// Written to an empty slot.
+pub const TO_EMPTY: u8 = 2;
+// Written over an entry.
+pub const OVER_ENTRY: u8 = 3;
+// Sequences used up.
+pub const USED_UP: u8 = 4;
+// Written again.
+pub const AGAIN: u8 = 5;
+// No rule, no slot, no evicted rule.
+pub const NOTHING: u16 = 65535;
+// The last sequence there is.
+pub const LAST_SEQUENCE: u32 = 4294967295;
+
+// Whether a write is given.
+pub fn gives_write(outcome: u8) -> bool
+    ensures { λ r. ⌜ r ≡ givesWrite outcome ⌝ }
+{
+    if outcome == NO_RULE {
+        return false;
+    }
+    outcome != USED_UP
+}
