@@ -103,7 +103,7 @@ module _ (keeper message : List ℕ) where
     pub long : length message ≡ reportSize
     pub inside : decodeReport message .slot < slotCount keySize keeper
 
-  not-refused : (o : Option ℕ) → numbered o ≡ none → o ≡ none
+  pub not-refused : (o : Option ℕ) → numbered o ≡ none → o ≡ none
   not-refused none e = refl
   not-refused (some n) e = let z : _≡_ {A = ℕ} 0 1 = cc in absurd (omega arith)
 

@@ -2,12 +2,12 @@
 -- slots then spells. For every width. Assumes nothing.
 use mathlib.Core.Path.{_≡_, sym, ap, _∙_}
 use mathlib.Core.List.{List, [], _∷_, _++_}
-use Prim.Native.Nat.{ℕ, zero, suc, _+_, _*_, _/_, _%_, _^_, _≤_, _<_}
+use Prim.Native.Nat.{ℕ, zero, suc, _+_, _*_, _/_, _%_, _^_, _≤_, _<_, min, max}
 use native.Mathlib.Omega.{arith}
 use lib.ListN.{length, take, drop, getD, set}
 use Rattle.model.specs.Bits.{Bytes}
-use Rattle.model.specs.Records.{Slot}
-use Rattle.model.specs.Ends.{counted}
+use Rattle.model.specs.Records.{Slot, entryOf, slotWith}
+use Rattle.model.specs.Ends.{top, counted, confirmed}
 use Rattle.buffers.specs.Numbers.{be, toBe}
 use Rattle.buffers.specs.Parts.{part, splice, chunk, spelled}
 use Rattle.buffers.proofs.PartLaws.{part-length, part-bytes, drop-bytes}
@@ -18,21 +18,21 @@ use Rattle.slots.proofs.SlotLaws.{length-put-slot, slots-put, slots-spe
 
 -- ---- bytes of lists and of numbers
 
-byte-more : {b : ℕ} {bs : List ℕ} → b < 256 → Bytes bs → Bytes (b ∷ bs)
+pub byte-more : {b : ℕ} {bs : List ℕ} → b < 256 → Bytes bs → Bytes (b ∷ bs)
 byte-more {b} {bs} l h = record { byte = go }
   where
     go : (i : ℕ) → getD (b ∷ bs) i 0 < 256
     go zero = l
     go (suc i) = h .byte i
 
-byte-none : Bytes []
+pub byte-none : Bytes []
 byte-none = record { byte = λ i. omega arith }
 
-append-bytes : (xs ys : List ℕ) → Bytes xs → Bytes ys → Bytes (xs ++ ys)
+pub append-bytes : (xs ys : List ℕ) → Bytes xs → Bytes ys → Bytes (xs ++ ys)
 append-bytes [] ys h k = k
 append-bytes (x ∷ xs) ys h k = byte-more (h .byte 0) (append-bytes xs ys (record { byte = λ i. h .byte (suc i) }) k)
 
-toBe-bytes : (k n : ℕ) → Bytes (toBe k n)
+pub toBe-bytes : (k n : ℕ) → Bytes (toBe k n)
 toBe-bytes zero n = byte-none
 toBe-bytes (suc k) n = append-bytes (toBe k (n / 256)) (n % 256 ∷ []) (toBe-bytes k (n / 256)) (byte-more (omega arith) byte-none)
 
@@ -87,14 +87,15 @@ decoded-byte w c h l =
       spare-byte = h .byte (slotSpare w);
     }
 
--- one hit more
-pub counted-byte : (w : ℕ) (x : Slot) → ByteSlot w x → ByteSlot w (counted x)
-counted-byte w x h =
+-- the same entry with other hits and marks
+with-byte : (w : ℕ) (x : Slot) (hits settled spare : ℕ) → ByteSlot w x → hits < 2 ^ 32 → settled < 256 → spare < 256
+    → ByteSlot w (slotWith (entryOf x) hits settled spare)
+with-byte w x hits settled spare h low marked spared =
     let f = h .fits in
     record {
       fits = record {
         sequence-fits = f .sequence-fits;
-        hits-fits = omega arith;
+        hits-fits = low;
         value-long = f .value-long;
         mask-long = f .mask-long;
         action-fits = f .action-fits;
@@ -102,9 +103,17 @@ counted-byte w x h =
       };
       value-bytes = h .value-bytes;
       mask-bytes = h .mask-bytes;
-      settled-byte = h .settled-byte;
-      spare-byte = h .spare-byte;
+      settled-byte = marked;
+      spare-byte = spared;
     }
+
+-- one hit more; and confirmed by a report
+pub counted-byte : (w : ℕ) (x : Slot) → ByteSlot w x → ByteSlot w (counted x)
+counted-byte w x h = with-byte w x (min (x .hits + 1) top) (x .settled) (x .spare) h (omega arith) (h .settled-byte) (h .spare-byte)
+
+pub confirmed-byte : (w : ℕ) (x : Slot) (hits : ℕ) → ByteSlot w x → hits < 2 ^ 32 → ByteSlot w (confirmed x hits)
+confirmed-byte w x hits h low =
+    with-byte w x (max (x .hits) hits) 1 (x .spare) h (omega (arith, h .fits .hits-fits)) (omega arith) (h .spare-byte)
 
 -- ---- a slot of a buffer, and one that is put there
 
