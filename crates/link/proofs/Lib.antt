@@ -1,0 +1,11 @@
+-- Every call of a sequence is one event of the model, so what the model keeps holds of the bytes. In reading order.
+pub mod MessageBytes
+pub mod MissBytes
+pub mod Given
+pub mod Meaning
+pub mod TableSteps
+pub mod KeeperSteps
+pub mod Steps
+pub mod Start
+pub mod OpenNumbers
+pub mod Promise

@@ -1,0 +1,110 @@
+-- What a state's bytes mean in the model, and what holds of every state that a sequence of calls leads to. Assumes nothing.
+use mathlib.Core.Path.{_≡_, refl, _∙_}
+use mathlib.Core.List.{List, map, List·Memᴰ}
+use mathlib.Core.Option.{Option}
+use Prim.Native.Nat.{ℕ, _*_, _≤_, _<_}
+use native.Mathlib.Omega.{arith}
+use lib.ListN.{length}
+use Rattle.model.specs.Bits.{Bytes}
+use Rattle.model.specs.Records.{Write, Report, slotAt}
+use Rattle.model.specs.Ends.{Decisions}
+use Rattle.model.specs.World.{World, Event, refused, sent, step}
+use Rattle.ternary.specs.Sizes.{keySize, positions}
+use Rattle.records.specs.Layout.{slotSize, mostSlots}
+use Rattle.slots.specs.Slots.{slotCount, slots}
+use Rattle.slots.specs.Refusals.{WholeSlots}
+use Rattle.slots.proofs.ByteSlots.{ByteSlot}
+use Rattle.messages.specs.Writes.{decodeWrite}
+use Rattle.messages.specs.Reports.{decodeReport}
+use Rattle.link.specs.Calls.{State}
+use Rattle.link.proofs.MessageBytes.{WriteBytes, ReportBytes}
+use Rattle.link.proofs.MissBytes.{slot-there}
+use Rattle.link.proofs.Given.{Gives, sent-formed}
+
+unfoldable pub meaning : State → World
+meaning s =
+    record {
+      keeper = slots keySize (s .keeper);
+      table = slots keySize (s .table);
+      writes = map (decodeWrite keySize) (s .writes);
+      reports = map decodeReport (s .reports);
+    }
+
+pub same-world : {a b : World} → a .keeper ≡ b .keeper → a .table ≡ b .table → a .writes ≡ b .writes → a .reports ≡ b .reports → a ≡ b
+same-world p q r t i = record { keeper = p i; table = q i; writes = r i; reports = t i }
+
+-- two ends of so many slots, and only messages as the ends give them
+pub record Formed (count : ℕ) (s : State) : Type 0 where
+  pub some-there : 1 ≤ count
+  pub few-there : count ≤ mostSlots
+  pub keeper-long : length (s .keeper) ≡ slotSize keySize * count
+  pub keeper-bytes : Bytes (s .keeper)
+  pub table-long : length (s .table) ≡ slotSize keySize * count
+  pub table-bytes : Bytes (s .table)
+  pub writes-formed : (m : List ℕ) → List·Memᴰ m (s .writes) → WriteBytes m
+  pub reports-formed : (m : List ℕ) → List·Memᴰ m (s .reports) → ReportBytes m
+
+-- bytes of the same length
+pub record Replaced (bs bs′ : List ℕ) : Type 0 where
+  pub long : length bs′ ≡ length bs
+  pub bytes : Bytes bs′
+
+-- an event leads from what one state means to what the other means, which is formed too
+pub record Stepped (p : Decisions) (count : ℕ) (s s′ : State) : Type 0 where
+  pub event : Event
+  pub meant : meaning s′ ≡ step positions p (meaning s) event
+  pub formed : Formed count s′
+
+module _ {count : ℕ} {s : State} (f : Formed count s) where
+  pub whole-of : (bs : List ℕ) → length bs ≡ slotSize keySize * count → WholeSlots bs
+  whole-of bs l = record { whole = omega arith; some-there = omega (arith, f .some-there); few-there = omega (arith, f .few-there) }
+
+  pub keeper-whole : WholeSlots (s .keeper)
+  keeper-whole = whole-of (s .keeper) (f .keeper-long)
+
+  pub table-whole : WholeSlots (s .table)
+  table-whole = whole-of (s .table) (f .table-long)
+
+  -- their slots are ones that bytes can hold
+  pub keeper-slot : (i : ℕ) → i < slotCount keySize (s .keeper) → ByteSlot keySize (slotAt (slots keySize (s .keeper)) i)
+  keeper-slot = slot-there (s .keeper) keeper-whole (f .keeper-bytes)
+
+  pub table-slot : (i : ℕ) → i < slotCount keySize (s .table) → ByteSlot keySize (slotAt (slots keySize (s .table)) i)
+  table-slot = slot-there (s .table) table-whole (f .table-bytes)
+
+  -- nothing changed
+  pub stayed : {p : Decisions} → Stepped p count s s
+  unfolding step
+  stayed = record { event = refused; meant = refl; formed = f }
+
+  -- the table's bytes are replaced, and a report may be given
+  pub table-formed : {table′ : List ℕ} (o : Option (List ℕ)) {g : Option Report} → Replaced (s .table) table′
+      → Gives decodeReport ReportBytes o g
+      → Formed count (record { keeper = s .keeper; table = table′; writes = s .writes; reports = sent o (s .reports) })
+  table-formed o b is =
+      record {
+        some-there = f .some-there;
+        few-there = f .few-there;
+        keeper-long = f .keeper-long;
+        keeper-bytes = f .keeper-bytes;
+        table-long = b .long ∙ f .table-long;
+        table-bytes = b .bytes;
+        writes-formed = f .writes-formed;
+        reports-formed = sent-formed o (s .reports) is (f .reports-formed);
+      }
+
+  -- the keeper's bytes are replaced, and a write may be given
+  pub keeper-formed : {keeper′ : List ℕ} (o : Option (List ℕ)) {g : Option Write} → Replaced (s .keeper) keeper′
+      → Gives (decodeWrite keySize) WriteBytes o g
+      → Formed count (record { keeper = keeper′; table = s .table; writes = sent o (s .writes); reports = s .reports })
+  keeper-formed o b is =
+      record {
+        some-there = f .some-there;
+        few-there = f .few-there;
+        keeper-long = b .long ∙ f .keeper-long;
+        keeper-bytes = b .bytes;
+        table-long = f .table-long;
+        table-bytes = f .table-bytes;
+        writes-formed = sent-formed o (s .writes) is (f .writes-formed);
+        reports-formed = f .reports-formed;
+      }

@@ -1,0 +1,148 @@
+-- What a miss places in the keeper and gives is what bytes can hold. Assumes nothing.
+use mathlib.Core.Path.{_≡_, refl, _∙_}
+use mathlib.Core.Bool.{Bool, true, false}
+use mathlib.Core.List.{List, [], _∷_}
+use mathlib.Core.Option.{Option, none, some}
+use Prim.Native.Nat.{ℕ, zero, suc, _+_, _*_, _/_, _%_, _-_, _^_, _≤_, _<_}
+use native.Mathlib.Omega.{arith}
+use lib.Dec.{ltb, eqb}
+use lib.ListN.{length, getD, set}
+use borrow.Author.Tests.{eqb-false, ltb-true, ltb-false}
+use Rattle.model.specs.Bits.{Bytes, bitAt, putBit, withBits}
+use Rattle.model.specs.Records.{Slot, writeFor, written, entryOf, slotAt}
+use Rattle.model.specs.Policy.{Rule, ruleAt, best}
+use Rattle.model.specs.Isolate.{isolatedAt, isolate}
+use Rattle.model.specs.Ends.{firstFor, top, largest, roomIn, Miss, noRule, again, place, usedUp, missOf, nextEntry, onMiss}
+use Rattle.model.proofs.Cases.{by-cases}
+use Rattle.model.proofs.BitLaws.{bit-lt, put-lt, length-with}
+use Rattle.model.proofs.PolicyLaws.{best-iff}
+use Rattle.model.proofs.Slots.{found, roomIn-lt, live-inside}
+use Rattle.ternary.specs.Sizes.{keySize, positions}
+use Rattle.buffers.proofs.PartLaws.{part-bytes}
+use Rattle.records.specs.Layout.{ruleSize, ruleValue, ruleMask, ruleAction}
+use Rattle.records.specs.Rules.{ruleCount, rules}
+use Rattle.records.proofs.RuleLaws.{rule-count, value-in-place, mask-in-place, action-in-place}
+use Rattle.slots.specs.Slots.{slotCount, slots}
+use Rattle.slots.specs.Refusals.{WholeSlots}
+use Rattle.slots.proofs.SlotLaws.{slot-count, slot-at}
+use Rattle.slots.proofs.ByteSlots.{ByteSlot, byte-more, two-below, slot-byte}
+use Rattle.policy.specs.Refusals.{AcceptedBytes}
+use Rattle.verdict.specs.Decisions.{deciding, missIn}
+use Rattle.link.proofs.MessageBytes.{ByteWrite}
+
+-- ---- rows with some bits fixed
+
+set-bytes : (xs : List ℕ) (i v : ℕ) → v < 256 → Bytes xs → Bytes (set xs i v)
+set-bytes [] i v l h = h
+set-bytes (x ∷ xs) zero v l h = byte-more l (record { byte = λ i. h .byte (suc i) })
+set-bytes (x ∷ xs) (suc i) v l h = byte-more (h .byte 0) (set-bytes xs i v l (record { byte = λ i. h .byte (suc i) }))
+
+fixed-bytes : (f : ℕ → ℕ) → ((p : ℕ) → f p < 2) → (row ps : List ℕ) → Bytes row → Bytes (withBits f row ps)
+unfolding withBits putBit
+fixed-bytes f low row [] h = h
+fixed-bytes f low row (p ∷ ps) h =
+    fixed-bytes f low (putBit row p (f p)) ps
+    (set-bytes row (p / 8) _ (put-lt 8 (getD row (p / 8) 0) (7 - p % 8) (f p) (h .byte (p / 8)) (omega arith) (low p)) h)
+
+-- ---- the slots of an end
+
+largest-le : (s : List Slot) (b : ℕ) → ((i : ℕ) → slotAt s i .sequence ≤ b) → largest s ≤ b
+unfolding largest
+largest-le [] b e = omega arith
+largest-le (x ∷ xs) b e = omega (arith, e 0, largest-le xs b (λ i. e (suc i)))
+
+module _ (bs : List ℕ) (whole : WholeSlots bs) (h : Bytes bs) where
+  abbrev k : List Slot
+  k = slots keySize bs
+
+  pub slot-there : (i : ℕ) → i < slotCount keySize bs → ByteSlot keySize (slotAt k i)
+  slot-there i l = rw (slot-at keySize bs i l) (slot-byte keySize bs i l (omega (arith, whole .whole)) h)
+
+  sequence-low : (i : ℕ) → slotAt k i .sequence ≤ top
+  sequence-low i =
+      by-cases (ltb 0 (slotAt k i .sequence))
+      (λ t. let l : i < slotCount keySize bs = omega (arith, live-inside k i (ltb-true 0 _ t), slot-count keySize bs) in
+      omega (arith, slot-there i l .fits .sequence-fits))
+      (λ t. omega (arith, ltb-false 0 (slotAt k i .sequence) t))
+
+  largest-low : largest k ≤ top
+  largest-low = largest-le k top sequence-low
+
+-- the write of a slot that bytes can hold
+pub write-there : (bs : List ℕ) → WholeSlots bs → (i : ℕ) (x : Slot) → i < slotCount keySize bs → ByteSlot keySize x
+    → ByteWrite (writeFor i (entryOf x))
+write-there bs whole i x l b =
+    record {
+      fits = record {
+        slot-fits = omega (arith, whole .few-there);
+        sequence-fits = b .fits .sequence-fits;
+        value-long = b .fits .value-long;
+        mask-long = b .fits .mask-long;
+        action-fits = b .fits .action-fits;
+        rule-fits = b .fits .rule-fits;
+      };
+      value-bytes = b .value-bytes;
+      mask-bytes = b .mask-bytes;
+    }
+
+-- ---- what a miss comes to
+
+-- the slot that it names is one of the keeper, and the entry that it places is one that bytes can hold
+abbrev pub MissFits : List ℕ → Miss → Type 0
+MissFits keeper noRule = Unit {0}
+MissFits keeper (again i) = i < slotCount keySize keeper
+MissFits keeper (place i e) = (i < slotCount keySize keeper) × ByteSlot keySize (written e)
+MissFits keeper (usedUp r) = Unit {0}
+
+module _ (policy : List ℕ) (h : Bytes policy) (is : AcceptedBytes policy) where
+  abbrev pol : List Rule
+  pol = rules keySize policy
+
+  module _ (r : ℕ) (l : r < ruleCount keySize policy) where
+    value-bytes : Bytes ((ruleAt pol r) .value)
+    value-bytes = rw (value-in-place keySize policy r l) (part-bytes keySize (ruleSize keySize * r + ruleValue) policy h)
+
+    mask-bytes : Bytes ((ruleAt pol r) .mask)
+    mask-bytes = rw (mask-in-place keySize policy r l) (part-bytes keySize (ruleSize keySize * r + ruleMask keySize) policy h)
+
+    action-low : (ruleAt pol r) .action < 2 ^ 16
+    action-low =
+        rw (action-in-place keySize policy r l)
+        (two-below (ruleSize keySize * r + ruleAction keySize) policy h (omega (arith, is .whole)))
+
+  module _ (keeper : List ℕ) (whole : WholeSlots keeper) (b : Bytes keeper) (key : List ℕ) where
+    abbrev ks : List Slot
+    ks = slots keySize keeper
+
+    next-byte : (r : ℕ) → best positions pol key ≡ some r → eqb (largest ks) top ≡ false
+        → ByteSlot keySize (written (nextEntry (deciding policy) ks key r))
+    unfolding isolate isolatedAt
+    next-byte r e u =
+        let inside : r < length pol = best-iff pol positions key (some r) .0 e .0 in
+        let l : r < ruleCount keySize policy = omega (arith, rule-count keySize policy) in
+        record {
+          fits = record {
+            sequence-fits = omega (arith, largest-low keeper whole b, eqb-false (largest ks) top u);
+            hits-fits = omega arith;
+            value-long = length-with (bitAt key) _ _ ∙ is .accepted .value-long r inside;
+            mask-long = length-with (λ p. 1) _ _ ∙ is .accepted .mask-long r inside;
+            action-fits = action-low r l;
+            rule-fits = omega (arith, is .accepted .few);
+          };
+          value-bytes = fixed-bytes (bitAt key) (bit-lt key) _ _ (value-bytes r l);
+          mask-bytes = fixed-bytes (λ p. 1) (λ p. omega arith) _ _ (mask-bytes r l);
+          settled-byte = omega arith;
+          spare-byte = omega arith;
+        }
+
+    fits-of : (found-best at : Option ℕ) (used : Bool) → best positions pol key ≡ found-best → firstFor positions ks key ≡ at
+        → eqb (largest ks) top ≡ used → MissFits keeper (missOf found-best at used (roomIn ks) (nextEntry (deciding policy) ks key))
+    fits-of none at used e f u = tt
+    fits-of (some r) (some i) used e f u = omega (arith, found positions ks key i f .inside, slot-count keySize keeper)
+    fits-of (some r) none true e f u = tt
+    fits-of (some r) none false e f u =
+        (omega (arith, roomIn-lt ks (omega (arith, slot-count keySize keeper, whole .some-there)), slot-count keySize keeper), next-byte r e u)
+
+    pub miss-fits : MissFits keeper (missIn policy key keeper)
+    unfolding onMiss
+    miss-fits = fits-of (best positions pol key) (firstFor positions ks key) (eqb (largest ks) top) refl refl refl

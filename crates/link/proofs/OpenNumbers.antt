@@ -1,0 +1,62 @@
+-- What an accepted open call says: the numbers of the open slots, read from its output. Assumes nothing.
+use mathlib.Core.Path.{_≡_, refl, sym, _∙_}
+use mathlib.Core.Bool.{true}
+use mathlib.Core.List.{List, [], _∷_, _++_}
+use mathlib.Core.Option.{Option, none, some}
+use Prim.Native.Nat.{ℕ, zero, suc, _*_, _^_, _<_}
+use native.Mathlib.Omega.{arith}
+use lib.Dec.{eqb}
+use lib.ListN.{length, getD}
+use borrow.Author.Tests.{eqb-true}
+use Rattle.model.specs.Below.{elem}
+use Rattle.model.proofs.Cases.{or-cases, clash}
+use Rattle.buffers.specs.Numbers.{be}
+use Rattle.buffers.specs.Parts.{part, splice, spelled}
+use Rattle.buffers.proofs.NumberLaws.{be-toBe}
+use Rattle.records.specs.Layout.{mostSlots}
+use Rattle.checks.specs.declared.refusal.Refusal.{Refusal}
+use Rattle.cover.specs.Answers.{numberBytes}
+use Rattle.keeper.specs.Opens.{openIn, openRefusal, answerOf, Opened}
+use Rattle.keeper.specs.declared.OpenAnswer.the-variants.{Count}
+
+-- ---- a list, and its numbers of two bytes each
+
+-- a member stands somewhere in the list
+place-in : (i : ℕ) (xs : List ℕ) → elem i xs ≡ true → (j : ℕ) × (j < length xs) × (getD xs j 0 ≡ i)
+unfolding elem
+place-in i [] e = clash e refl
+place-in i (x ∷ xs) e =
+    or-cases (eqb i x) (elem i xs) e
+    (λ t. (0, omega arith, sym (eqb-true i x t)))
+    (λ t. let r = place-in i xs t in (suc (r .0), omega (arith, r .1), r .2))
+
+number-at : (xs rest : List ℕ) (j : ℕ) → j < length xs → getD xs j 0 < 2 ^ 16 → be (part 2 (2 * j) (numberBytes xs ++ rest)) ≡ getD xs j 0
+unfolding spelled
+number-at [] rest j l low = absurd (omega arith)
+number-at (x ∷ xs) rest zero l low = be-toBe 2 x low
+number-at (x ∷ xs) rest (suc j) l low =
+    let n : 2 * suc j ≡ suc (suc (2 * j)) = omega arith in
+    rw n (number-at xs rest j (omega arith) low)
+
+-- ---- what an accepted open call says
+
+opened-fine : (o : Option Refusal) (m n : ℕ) → Count n ≡ answerOf o m → (o ≡ none) × (n ≡ m)
+opened-fine (some r) m n e = let z : _≡_ {A = ℕ} 0 1 = cc in absurd (omega arith)
+opened-fine none m n e = (refl, cc)
+
+pub empty-list : (xs : List ℕ) → 0 ≡ length xs → xs ≡ []
+empty-list [] e = refl
+empty-list (x ∷ xs) e = absurd (omega arith)
+
+module _ (keeper : List ℕ) (n : ℕ) (out out′ : List ℕ) (is : Opened keeper out (Count n) out′) where
+  -- it is not refused, and says how many slots are open
+  pub open-fine : (openRefusal keeper (length out) ≡ none) × (n ≡ length (openIn keeper))
+  open-fine = opened-fine (openRefusal keeper (length out)) (length (openIn keeper)) n (is .answer)
+
+  -- an open slot is one of the numbers that it wrote
+  pub open-listed : (i : ℕ) → i < mostSlots → elem i (openIn keeper) ≡ true → (j : ℕ) × (j < n) × (be (part 2 (2 * j) out′) ≡ i)
+  unfolding splice
+  open-listed i few e =
+      let r = place-in i (openIn keeper) e in
+      let w = rw (open-fine .0) at (is .written) in
+      (r .0, omega (arith, r .1, open-fine .1), rw w (number-at (openIn keeper) _ (r .0) (r .1) (omega (arith, r .2)) ∙ r .2))

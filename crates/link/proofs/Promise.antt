@@ -1,0 +1,153 @@
+-- Demand 3 about bytes: what the model keeps, read off the bytes; so the promise holds at every point of every sequence of calls.
+-- Assumes nothing.
+use mathlib.Core.Path.{_≡_, refl, sym, ap, _∙_}
+use mathlib.Core.Logic.{_≢_}
+use mathlib.Core.List.{List, [], _∷_, List·Memᴰ, Memᴰ·map}
+use mathlib.Core.Option.{Option, none, some}
+use Prim.Native.Nat.{ℕ, _*_, _≤_, _<_}
+use native.Mathlib.Omega.{arith}
+use lib.ListN.{length}
+use lib.Seq.{take-all}
+use borrow.Author.Tests.{eq-eqb, le-ltb}
+use Rattle.model.specs.Bits.{Bytes}
+use Rattle.model.specs.Records.{Slot, entryOf, entryAt}
+use Rattle.model.specs.Ends.{Decisions, Hit, lookup}
+use Rattle.model.specs.World.{run}
+use Rattle.model.specs.Promise.{Kept, Sound}
+use Rattle.model.proofs.Promise.{GoodWorld, step-good, good-kept, always-good, policy-sound}
+use Rattle.ternary.specs.Sizes.{keySize, positions}
+use Rattle.buffers.specs.Numbers.{be}
+use Rattle.buffers.specs.Parts.{part}
+use Rattle.records.specs.Layout.{reportSize, mostRules, mostSlots}
+use Rattle.records.specs.Rules.{rules}
+use Rattle.slots.specs.Slots.{slotCount, slots}
+use Rattle.slots.proofs.SlotLaws.{slot-at}
+use Rattle.slots.proofs.FitLaws.{slots-accepted}
+use Rattle.messages.specs.Writes.{decodeWrite}
+use Rattle.messages.specs.Reports.{decodeReport}
+use Rattle.policy.specs.Refusals.{policyRefusal, keyRefusal, AcceptedBytes}
+use Rattle.policy.specs.Best.{bestFound}
+use Rattle.policy.specs.Answers.{bestRefusal, bestAnswer}
+use Rattle.policy.proofs.Acceptance.{accepted-bytes}
+use Rattle.table.specs.Lookups.{answerOf, lookupAnswer}
+use Rattle.received.specs.Writes.{writeCallRefusal}
+use Rattle.received.proofs.ModelLaws.{taken-here, good-lookup}
+use Rattle.keeper.specs.Reports.{numbered, reportRefused}
+use Rattle.keeper.specs.Opens.{openIn, openRefusal, Opened}
+use Rattle.keeper.specs.declared.OpenAnswer.the-variants.{Count}
+use Rattle.keeper.proofs.ReportLaws.{report-meaning}
+use Rattle.keeper.proofs.OpenLaws.{list-few}
+use Rattle.verdict.specs.Decisions.{deciding}
+use Rattle.link.specs.Calls.{State, clearedEnds, Call, Sequence, Throughout}
+use Rattle.link.specs.Promise.{MissOrBest, entryOfBytes, KeptBytes, LinkPromise}
+use Rattle.link.proofs.Meaning.{meaning, Formed, keeper-whole, table-whole}
+use Rattle.link.proofs.Steps.{stepped}
+use Rattle.link.proofs.Start.{start-meant, start-formed}
+use Rattle.link.proofs.OpenNumbers.{empty-list, open-fine, open-listed}
+
+-- ---- what the model keeps, of the bytes
+
+module _ (policy : List ℕ) (fine : policyRefusal policy ≡ none) {count : ℕ} {s : State} (f : Formed count s)
+    (kept : Kept positions (deciding policy) (meaning s)) where
+  abbrev k : List Slot
+  k = slots keySize (s .keeper)
+
+  abbrev t : List Slot
+  t = slots keySize (s .table)
+
+  best-here : (key : List ℕ) → length key ≡ keySize → (o : Option Hit) → lookup positions t key ≡ o
+      → MissOrBest (answerOf none o) (bestAnswer policy key)
+  unfolding bestAnswer bestRefusal bestFound keyRefusal meaning
+  best-here key l none e = tt
+  best-here key l (some h) e = rw (fine, eq-eqb (length key) keySize l, kept .rule key h e, kept .action key h e)
+
+  looked-best : (key : List ℕ) (room : ℕ) → length key ≡ keySize → reportSize ≤ room
+      → MissOrBest (lookupAnswer key (s .table) room) (bestAnswer policy key)
+  unfolding lookupAnswer
+  looked-best key room l fits =
+      rw (good-lookup key (s .table) room .1 (record { long = l; whole = table-whole f; fits = λ i e. fits }))
+      (best-here key l (lookup positions t key) refl)
+
+  opens : (room : ℕ) → 2 * count ≤ room → openRefusal (s .keeper) room ≡ none
+  unfolding openRefusal
+  opens room l =
+      let xs : List ℕ = openIn (s .keeper) in
+      let short : length xs ≤ slotCount keySize (s .keeper) =
+      list-few (s .keeper) (record { few = omega arith; same = take-all (length xs) xs (omega arith) })
+      in
+      rw (slots-accepted (s .keeper) .1 (keeper-whole f), le-ltb room (2 * length xs) (omega (arith, f .keeper-long)))
+
+  -- an entry by its bytes, and in the list of slots
+  keeper-entry : (i : ℕ) → i < count → entryAt k i ≡ entryOfBytes (s .keeper) i
+  keeper-entry i l = ap entryOf (slot-at keySize (s .keeper) i (omega (arith, f .keeper-long)))
+
+  table-entry : (i : ℕ) → i < count → entryAt t i ≡ entryOfBytes (s .table) i
+  table-entry i l = ap entryOf (slot-at keySize (s .table) i (omega (arith, f .table-long)))
+
+  differs : (i : ℕ) → i < count → entryOfBytes (s .keeper) i ≢ entryOfBytes (s .table) i
+      → (n : ℕ) (out out′ : List ℕ) → Opened (s .keeper) out (Count n) out′ → (j : ℕ) × (j < n) × (be (part 2 (2 * j) out′) ≡ i)
+  unfolding meaning
+  differs i l d n out out′ is =
+      open-listed (s .keeper) n out out′ is i (omega (arith, f .few-there))
+      (kept .differs i (λ e. d (sym (keeper-entry i l) ∙ e ∙ table-entry i l)))
+
+  same : (out out′ : List ℕ) → Opened (s .keeper) out (Count 0) out′
+      → (i : ℕ) → i < count → entryOfBytes (s .keeper) i ≡ entryOfBytes (s .table) i
+  unfolding meaning
+  same out out′ is i l =
+      let none-open : openIn (s .keeper) ≡ [] = empty-list (openIn (s .keeper)) (open-fine (s .keeper) 0 out out′ is .1) in
+      sym (keeper-entry i l) ∙ kept .same none-open i ∙ table-entry i l
+
+  writes-taken : (m : List ℕ) → List·Memᴰ m (s .writes) → (room : ℕ) → reportSize ≤ room → writeCallRefusal (s .table) m room ≡ none
+  unfolding meaning
+  writes-taken m given room fits =
+      let h = f .writes-formed m given in
+      taken-here (s .table) m room (table-whole f) (h .long) (h .kind) (h .zeros)
+      (kept .writesTaken (decodeWrite keySize m) (Memᴰ·map (decodeWrite keySize) given)) fits
+
+  reports-taken : (m : List ℕ) → List·Memᴰ m (s .reports) → reportRefused (s .keeper) m ≡ none
+  unfolding meaning
+  reports-taken m given =
+      let h = f .reports-formed m given in
+      report-meaning (s .keeper) m (keeper-whole f) (h .long) (h .kind) (h .zeroed)
+      ∙ ap numbered (kept .reportsTaken (decodeReport m) (Memᴰ·map decodeReport given))
+
+  kept-bytes : KeptBytes policy count s
+  kept-bytes =
+      record {
+        best = looked-best;
+        opens = opens;
+        differs = differs;
+        same = same;
+        writesTaken = writes-taken;
+        reportsTaken = reports-taken;
+      }
+
+-- ---- at every point
+
+module _ (policy : List ℕ) (b : Bytes policy) (fine : policyRefusal policy ≡ none) where
+  abbrev p : Decisions
+  p = deciding policy
+
+  accepted : AcceptedBytes policy
+  accepted = accepted-bytes policy .0 fine
+
+  sound : Sound positions p
+  sound = policy-sound keySize mostRules (rules keySize policy) (accepted .accepted)
+
+  throughout : (calls : List Call) {count : ℕ} {s : State} → Formed count s → GoodWorld positions p keySize count (meaning s)
+      → Sequence policy s calls → Throughout (KeptBytes policy count) s calls
+  throughout [] f g made = kept-bytes policy fine f (good-kept positions p keySize _ _ g)
+  throughout (c ∷ calls) {count} {s} f g made =
+      let next = stepped policy b accepted f c (made .0 .0) (made .0 .1) in
+      let good = step-good positions p sound keySize count (f .some-there) (meaning s) g (next .event) in
+      (kept-bytes policy fine f (good-kept positions p keySize _ _ g), throughout calls (next .formed) (rw (next .meant) good) (made .1))
+
+  pub from-start : (count : ℕ) → 1 ≤ count → count ≤ mostSlots → (calls : List Call)
+      → Sequence policy (clearedEnds count) calls → Throughout (KeptBytes policy count) (clearedEnds count) calls
+  unfolding run
+  from-start count one few calls made =
+      throughout calls (start-formed count one few) (rw (start-meant count) (always-good positions p sound keySize count one [])) made
+
+pub link-promise : LinkPromise
+link-promise policy b fine count one few calls made = from-start policy b fine count one few calls made

@@ -1,0 +1,3 @@
+-- The two ends as bytes, the calls on them in any order, and what holds whatever the link does.
+pub mod Calls
+pub mod Promise
