@@ -3,7 +3,7 @@ use mathlib.Core.Path.{_≡_, refl, sym, _∙_}
 use mathlib.Core.Bool.{not}
 use mathlib.Core.List.{List, List·Memᴰ}
 use mathlib.Core.Option.{Option, none, some}
-use Prim.Native.Nat.{ℕ, _*_, _+_, _≤_, _<_}
+use Prim.Native.Nat.{ℕ, _≤_, _<_}
 use native.Mathlib.Omega.{arith}
 use lib.Dec.{ltb}
 use lib.ListN.{length}
@@ -16,7 +16,7 @@ use Rattle.model.specs.World.{miss as missEvent, reportArrives, step}
 use Rattle.model.specs.Trace.{missOutcome}
 use Rattle.model.proofs.Cases.{by-cases, cond-elim, not-true}
 use Rattle.ternary.specs.Sizes.{keySize}
-use Rattle.records.specs.Layout.{slotSize, writeSize, reportHits}
+use Rattle.records.specs.Layout.{writeSize, reportHits}
 use Rattle.checks.specs.Refusals.{need}
 use Rattle.checks.specs.declared.refusal.Refusal.{Refusal}
 use Rattle.checks.proofs.RefusalLaws.{none-first, need-none}
@@ -38,7 +38,7 @@ use Rattle.link.specs.Calls.{miss as missCall, report as reportCall}
 use Rattle.link.proofs.MessageBytes.{WriteBytes, ReportBytes}
 use Rattle.link.proofs.MissBytes.{MissFits, miss-fits, write-there}
 use Rattle.link.proofs.Given.{Gives, gives-none, gives-write, sent-meant, place-of}
-use Rattle.link.proofs.Meaning.{meaning, same-world, Formed, Replaced, Stepped, keeper-whole, keeper-slot, stayed, keeper-formed}
+use Rattle.link.proofs.Meaning.{meaning, same-world, Formed, Replaced, Stepped, keeper-whole, keeper-room, keeper-slot, stayed, keeper-formed}
 
 -- room for a write
 room-for : (room : ℕ) → need (not (ltb room (writeSize keySize))) shortOutput none ≡ none → writeSize keySize ≤ room
@@ -55,10 +55,9 @@ module _ {count : ℕ} {s : State} (f : Formed count s) where
   keeper-put : (i : ℕ) (x : Slot) → i < slotCount keySize (s .keeper) → ByteSlot keySize x
       → Replaced (s .keeper) (putSlot keySize (s .keeper) i x)
   keeper-put i x l b =
-      let room : slotSize keySize * i + slotSize keySize ≤ length (s .keeper) = omega (arith, keeper-whole f .whole) in
       record {
-        long = length-put-slot keySize (s .keeper) i x l room (b .fits);
-        bytes = put-bytes keySize (s .keeper) i l room (f .keeper-bytes) x b;
+        long = length-put-slot keySize (s .keeper) i x l (keeper-room f i l) (b .fits);
+        bytes = put-bytes keySize (s .keeper) i l (keeper-room f i l) (f .keeper-bytes) x b;
       }
 
   -- ---- a miss

@@ -8,4 +8,5 @@ pub mod KeeperSteps
 pub mod Steps
 pub mod Start
 pub mod OpenNumbers
+pub mod AnyCall
 pub mod Promise

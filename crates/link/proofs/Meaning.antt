@@ -2,7 +2,7 @@
 use mathlib.Core.Path.{_≡_, refl, _∙_}
 use mathlib.Core.List.{List, map, List·Memᴰ}
 use mathlib.Core.Option.{Option}
-use Prim.Native.Nat.{ℕ, _*_, _≤_, _<_}
+use Prim.Native.Nat.{ℕ, _+_, _*_, _≤_, _<_}
 use native.Mathlib.Omega.{arith}
 use lib.ListN.{length}
 use Rattle.model.specs.Bits.{Bytes}
@@ -65,7 +65,11 @@ module _ {count : ℕ} {s : State} (f : Formed count s) where
   pub table-whole : WholeSlots (s .table)
   table-whole = whole-of (s .table) (f .table-long)
 
-  -- their slots are ones that bytes can hold
+  -- a slot of the keeper ends within its bytes
+  pub keeper-room : (i : ℕ) → i < slotCount keySize (s .keeper) → slotSize keySize * i + slotSize keySize ≤ length (s .keeper)
+  keeper-room i l = omega (arith, keeper-whole .whole)
+
+  -- the slots are ones that bytes can hold
   pub keeper-slot : (i : ℕ) → i < slotCount keySize (s .keeper) → ByteSlot keySize (slotAt (slots keySize (s .keeper)) i)
   keeper-slot = slot-there (s .keeper) keeper-whole (f .keeper-bytes)
 

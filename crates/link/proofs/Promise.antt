@@ -38,11 +38,13 @@ use Rattle.keeper.specs.declared.OpenAnswer.the-variants.{Count}
 use Rattle.keeper.proofs.ReportLaws.{report-meaning}
 use Rattle.keeper.proofs.OpenLaws.{list-few}
 use Rattle.verdict.specs.Decisions.{deciding}
-use Rattle.link.specs.Calls.{State, clearedEnds, Call, Sequence, Throughout}
+use Rattle.link.specs.Calls.{State, clearedEnds, Call, after, Sequence, Throughout}
+use Rattle.link.specs.AnyCall.{AnyCall, AnyCallPromise}
 use Rattle.link.specs.Promise.{MissOrBest, entryOfBytes, KeptBytes, LinkPromise}
 use Rattle.link.proofs.Meaning.{meaning, Formed, keeper-whole, table-whole}
 use Rattle.link.proofs.Steps.{stepped}
 use Rattle.link.proofs.Start.{start-meant, start-formed}
+use Rattle.link.proofs.AnyCall.{any-call}
 use Rattle.link.proofs.OpenNumbers.{empty-list, open-fine, open-listed}
 
 -- ---- what the model keeps, of the bytes
@@ -135,19 +137,29 @@ module _ (policy : List ℕ) (b : Bytes policy) (fine : policyRefusal policy ≡
   sound : Sound positions p
   sound = policy-sound keySize mostRules (rules keySize policy) (accepted .accepted)
 
-  throughout : (calls : List Call) {count : ℕ} {s : State} → Formed count s → GoodWorld positions p keySize count (meaning s)
-      → Sequence policy s calls → Throughout (KeptBytes policy count) s calls
-  throughout [] f g made = kept-bytes policy fine f (good-kept positions p keySize _ _ g)
-  throughout (c ∷ calls) {count} {s} f g made =
-      let next = stepped policy b accepted f c (made .0 .0) (made .0 .1) in
-      let good = step-good positions p sound keySize count (f .some-there) (meaning s) g (next .event) in
-      (kept-bytes policy fine f (good-kept positions p keySize _ _ g), throughout calls (next .formed) (rw (next .meant) good) (made .1))
+  -- what holds of every formed state whose meaning is good holds at every point
+  module _ (P : State → Type 0) (count : ℕ)
+      (here : (s : State) → Formed count s → GoodWorld positions p keySize count (meaning s) → P s) where
+    throughout : (calls : List Call) (s : State) → Formed count s → GoodWorld positions p keySize count (meaning s)
+        → Sequence policy s calls → Throughout P s calls
+    throughout [] s f g made = here s f g
+    throughout (c ∷ calls) s f g made =
+        let next = stepped policy b accepted f c (made .0 .0) (made .0 .1) in
+        let good = step-good positions p sound keySize count (f .some-there) (meaning s) g (next .event) in
+        (here s f g, throughout calls (after s c) (next .formed) (rw (next .meant) good) (made .1))
 
-  pub from-start : (count : ℕ) → 1 ≤ count → count ≤ mostSlots → (calls : List Call)
-      → Sequence policy (clearedEnds count) calls → Throughout (KeptBytes policy count) (clearedEnds count) calls
-  unfolding run
-  from-start count one few calls made =
-      throughout calls (start-formed count one few) (rw (start-meant count) (always-good positions p sound keySize count one [])) made
+    pub from-start : 1 ≤ count → count ≤ mostSlots → (calls : List Call)
+        → Sequence policy (clearedEnds count) calls → Throughout P (clearedEnds count) calls
+    unfolding run
+    from-start one few calls made =
+        throughout calls (clearedEnds count) (start-formed count one few)
+        (rw (start-meant count) (always-good positions p sound keySize count one [])) made
 
 pub link-promise : LinkPromise
-link-promise policy b fine count one few calls made = from-start policy b fine count one few calls made
+link-promise policy b fine count one few calls made =
+    from-start policy b fine (KeptBytes policy count) count
+    (λ s f g. kept-bytes policy fine f (good-kept positions (deciding policy) keySize count (meaning s) g)) one few calls made
+
+pub any-call-promise : AnyCallPromise
+any-call-promise policy b fine count one few calls made =
+    from-start policy b fine AnyCall count (λ s f g. any-call f) one few calls made

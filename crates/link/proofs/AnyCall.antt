@@ -1,0 +1,88 @@
+-- No call is shut out from the sequences: with any arguments that are bytes it has an answer as its function promises. Assumes nothing.
+use mathlib.Core.Path.{_≡_, refl}
+use mathlib.Core.List.{List}
+use mathlib.Core.Option.{Option, none, some}
+use Prim.Native.Nat.{ℕ, _<_}
+use native.Mathlib.Omega.{arith}
+use lib.ListN.{length, set}
+use Rattle.model.specs.Bits.{Bytes}
+use Rattle.model.specs.Records.{Slot, Report, written, slotAt}
+use Rattle.model.specs.Ends.{Miss, noRule, again, place, usedUp, missKeeper, isCurrent, confirmed, afterReport}
+use Rattle.model.proofs.Cases.{by-cases}
+use Rattle.ternary.specs.Sizes.{keySize}
+use Rattle.records.specs.Layout.{reportHits}
+use Rattle.checks.specs.declared.refusal.Refusal.{Refusal}
+use Rattle.checks.proofs.RefusalLaws.{none-first}
+use Rattle.slots.specs.Slots.{slotCount, slots, putSlot}
+use Rattle.slots.proofs.SlotLaws.{slots-put}
+use Rattle.slots.proofs.ByteSlots.{ByteSlot, confirmed-byte, four-below}
+use Rattle.messages.specs.Reports.{decodeReport}
+use Rattle.policy.specs.Refusals.{policyRefusal, keyRefusal}
+use Rattle.policy.specs.Answers.{bestRefusal}
+use Rattle.policy.proofs.Acceptance.{accepted-bytes}
+use Rattle.received.proofs.AfterLaws.{after-lookup, after-write}
+use Rattle.keeper.specs.Reports.{leftOf, reportRefused, reportAnswer, reportBytes}
+use Rattle.keeper.proofs.ReportLaws.{accepted-of}
+use Rattle.verdict.specs.Decisions.{missIn}
+use Rattle.miss.specs.Answers.{partsRefusal, missRefused, missBytes}
+use Rattle.link.specs.Calls.{State}
+use Rattle.link.specs.AnyCall.{AnyCall}
+use Rattle.link.proofs.MissBytes.{MissFits, miss-fits}
+use Rattle.link.proofs.Meaning.{Formed, keeper-whole, keeper-room, keeper-slot}
+
+module _ {count : ℕ} {s : State} (f : Formed count s) where
+  abbrev k : List Slot
+  k = slots keySize (s .keeper)
+
+  put-slots : (i : ℕ) (x : Slot) → i < slotCount keySize (s .keeper) → ByteSlot keySize x
+      → slots keySize (putSlot keySize (s .keeper) i x) ≡ set k i x
+  put-slots i x l b = slots-put keySize (s .keeper) i x l (keeper-room f i l) (b .fits)
+
+  -- ---- a miss
+
+  miss-slots : (m : Miss) → MissFits (s .keeper) m → slots keySize (missBytes (s .keeper) m) ≡ missKeeper k m
+  miss-slots noRule h = refl
+  miss-slots (again i) h = refl
+  miss-slots (place i e) h = put-slots i (written e) (h .0) (h .1)
+  miss-slots (usedUp r) h = refl
+
+  miss-meant : (policy key : List ℕ) (room : ℕ) → Bytes policy → (o : Option Refusal) → missRefused policy key (s .keeper) room ≡ o
+      → let m = missIn policy key (s .keeper) in
+      slots keySize (leftOf o (s .keeper) (missBytes (s .keeper) m)) ≡ leftOf o k (missKeeper k m)
+  unfolding missRefused partsRefusal bestRefusal
+  miss-meant policy key room b (some x) e = refl
+  miss-meant policy key room b none e =
+      let parts = none-first (partsRefusal policy key (s .keeper)) _ e .0 in
+      let fine = none-first (policyRefusal policy) (keyRefusal key) (none-first (bestRefusal policy key) _ parts .0) .0 in
+      miss-slots (missIn policy key (s .keeper))
+      (miss-fits policy b (accepted-bytes policy .0 fine) (s .keeper) (keeper-whole f) (f .keeper-bytes) key)
+
+  -- ---- a report
+
+  report-meant : (m : List ℕ) → Bytes m → (o : Option Refusal) → reportRefused (s .keeper) m ≡ o
+      → slots keySize (leftOf o (s .keeper) (reportBytes (s .keeper) (decodeReport m))) ≡ leftOf o k (afterReport k (decodeReport m))
+  unfolding reportAnswer reportBytes afterReport decodeReport
+  report-meant m b (some x) e = refl
+  report-meant m b none e =
+      let taken = accepted-of (s .keeper) m refl (rw e) in
+      let x : Report = decodeReport m in
+      let low = four-below reportHits m b (omega (arith, taken .long)) in
+      by-cases (isCurrent k x)
+      (λ t. rw t (put-slots (x .slot) (confirmed (slotAt k (x .slot)) (x .hits)) (taken .inside)
+      (confirmed-byte keySize (slotAt k (x .slot)) (x .hits) (keeper-slot f (x .slot) (taken .inside)) low)))
+      (λ t. rw t)
+
+  pub any-call : AnyCall s
+  any-call =
+      record {
+        lookups = λ key out.
+            let meant = after-lookup (s .table) (f .table-bytes) key (length out) .meaning in
+            (_, _, _, record { answer = refl; bytes = refl; meaning = meant; told = refl });
+        writes = λ m out b.
+            let meant = after-write (s .table) (f .table-bytes) m b (length out) .meaning in
+            (_, _, _, record { answer = refl; bytes = refl; meaning = meant; told = refl });
+        misses = λ policy key out b.
+            (_, _, _, record { answer = refl; bytes = refl; meaning = miss-meant policy key (length out) b _ refl; given = refl });
+        reports = λ m b. (_, _, record { answer = refl; bytes = refl; meaning = report-meant m b _ refl });
+        opens = λ out. (_, _, record { answer = refl; written = refl });
+      }

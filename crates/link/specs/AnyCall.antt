@@ -1,0 +1,34 @@
+-- No call is shut out from the sequences. Assumes nothing.
+use mathlib.Core.Path.{_≡_}
+use mathlib.Core.List.{List}
+use mathlib.Core.Option.{none}
+use Prim.Native.Nat.{ℕ, _≤_}
+use Rattle.model.specs.Bits.{Bytes}
+use Rattle.records.specs.Layout.{mostSlots}
+use Rattle.policy.specs.Refusals.{policyRefusal}
+use Rattle.table.specs.Lookups.{LookedUp}
+use Rattle.table.specs.declared.lookup.LookupAnswer.{LookupAnswer}
+use Rattle.received.specs.Writes.{Received}
+use Rattle.received.specs.declared.write.WriteAnswer.{WriteAnswer}
+use Rattle.keeper.specs.Reports.{Reported}
+use Rattle.keeper.specs.Opens.{Opened}
+use Rattle.keeper.specs.declared.ReportAnswer.{ReportAnswer}
+use Rattle.keeper.specs.declared.OpenAnswer.{OpenAnswer}
+use Rattle.miss.specs.Answers.{Missed}
+use Rattle.miss.specs.declared.MissAnswer.{MissAnswer}
+use Rattle.link.specs.Calls.{State, clearedEnds, Call, Sequence, Throughout}
+
+-- whatever its arguments, each call has an answer and leaves buffers as its function promises
+pub record AnyCall (s : State) : Type 0 where
+  pub lookups : (key out : List ℕ) → (r : LookupAnswer) × (table′ : List ℕ) × (out′ : List ℕ) × LookedUp key (s .table) out r table′ out′
+  pub writes : (m out : List ℕ) → Bytes m
+      → (r : WriteAnswer) × (table′ : List ℕ) × (out′ : List ℕ) × Received (s .table) m out r table′ out′
+  pub misses : (policy key out : List ℕ) → Bytes policy
+      → (r : MissAnswer) × (keeper′ : List ℕ) × (out′ : List ℕ) × Missed policy key (s .keeper) out r keeper′ out′
+  pub reports : (m : List ℕ) → Bytes m → (r : ReportAnswer) × (keeper′ : List ℕ) × Reported (s .keeper) m r keeper′
+  pub opens : (out : List ℕ) → (r : OpenAnswer) × (out′ : List ℕ) × Opened (s .keeper) out r out′
+
+-- at every point of every sequence of calls
+abbrev pub AnyCallPromise : Type 0
+AnyCallPromise = (policy : List ℕ) → Bytes policy → policyRefusal policy ≡ none → (count : ℕ) → 1 ≤ count → count ≤ mostSlots
+    → (calls : List Call) → Sequence policy (clearedEnds count) calls → Throughout AnyCall (clearedEnds count) calls
