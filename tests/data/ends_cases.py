@@ -7,7 +7,7 @@ parts are what this reading says of the earlier.
 """
 from ends import EMPTY, IS_REPORT, IS_WRITE, LARGEST, MOST_SLOTS, NOTHING, Report, Slot, Write, answer
 from ends import call_lookup, call_miss, call_open, call_report, call_write, encode, end_bytes, size
-from policies import SMALL, key, row, top
+from policies import SMALL, V4, key, row, top
 from rules import policy_bytes, rule_bytes
 
 CALLS = [call_lookup, call_write, call_miss, call_report, call_open]
@@ -219,6 +219,10 @@ def misses(cases):
     # what is written
     for text in ('1000', '1001', '0111', '1011', '1101'):
         cases.miss(f'written.{text}', text, [EMPTY])
+    # two bits fixed, both to 1, the lower of two positions on a tie; a rule with exact zeros that does not match; two rules of one priority
+    cases.miss('written.V4', '010011111', [EMPTY], policy=policy_bytes(V4))
+    cases.miss('written.V4.none', '110011111', [EMPTY], policy=policy_bytes(V4))
+    cases.miss('written.first.of.two', '1', [EMPTY], policy=policy_bytes([top('1', 5, 1), top('1', 5, 2)]))
     cases.miss('written.1024.rules', '1010', [EMPTY], policy=(FILLER + POLICY)[len(FLAWED):])
     cases.miss('miss.full', '1111', FULL)
     cases.miss('miss.full.again', '0' + '1' * 8, FULL)
