@@ -222,15 +222,20 @@ fn say_slot(i: usize, old: &[u8], new: &[u8]) {
     }
 }
 
+// What a call gives, unless it is nothing.
+fn say_given(s: &[u8]) {
+    if s.len() > 0 {
+        say(b" gives ");
+        say_hex(s);
+    }
+}
+
 // The output: the first n bytes are the answer, the others must be as they were.
 fn say_output(out: &[u8], n: usize) {
     if n > out.len() {
         return;
     }
-    if n > 0 {
-        say(b" gives ");
-        say_hex(part(out, 0, n));
-    }
+    say_given(part(out, 0, n));
     if !untouched(part(out, n, out.len() - n)) {
         say(b" changed");
     }
