@@ -38,6 +38,11 @@ static void say(struct world *w, unsigned check, const char *words)
     }
 }
 
+static void saw(struct world *w, enum event event)
+{
+    w->report.seen[event]++;
+}
+
 /* ---- Messages. */
 
 static void pool_add(struct pool *pool, struct random *r, const uint8_t *message, size_t size)
@@ -106,9 +111,12 @@ static void miss(struct world *w)
 {
     lend_out(w, WRITE);
     struct answer answer = call(w, MISS);
-    if (answer.refusal)
+    if (answer.refusal) {
         say(w, ANSWERS, "a miss was refused");
-    else if (answer.field[0] == WG_TO_EMPTY || answer.field[0] == WG_OVER_ENTRY || answer.field[0] == WG_AGAIN)
+        return;
+    }
+    saw(w, answer.field[0] == 2 ? TO_EMPTY : answer.field[0] == 3 ? OVER_ENTRY : answer.field[0] == 5 ? GIVEN_AGAIN : NO_RULE);
+    if (answer.field[0] != 0)
         pool_add(&w->writes, &w->random, w->out, WRITE);
     watch_missed(&w->watch, w->key);
 }
@@ -121,9 +129,10 @@ static void packet(struct world *w)
     struct answer answer = call(w, LOOKUP);
     if (answer.refusal)
         say(w, ANSWERS, "a lookup was refused");
-    else if (answer.field[0])
+    else if (answer.field[0]) {
+        saw(w, A_HIT);
         pool_add(&w->reports, &w->random, w->out, REPORT);
-    else if (random_one_in(&w->random, 2))
+    } else if (random_one_in(&w->random, 2))
         miss(w);
 }
 
@@ -139,6 +148,7 @@ static void deliver_write(struct world *w)
     if (w->writes.count == 0)
         return;
     pool_take(&w->writes, &w->random, w->message, WRITE);
+    saw(w, get32(w->message + 4) > get32(w->table + get16(w->message + 2) * SLOT) ? WRITE_STORED : WRITE_TOO_LATE);
     lend(w, MESSAGE, w->message, WRITE);
     lend_out(w, REPORT);
     if (call(w, WRITES).refusal)
@@ -152,6 +162,7 @@ static void deliver_report(struct world *w)
     if (w->reports.count == 0)
         return;
     pool_take(&w->reports, &w->random, w->message, REPORT);
+    saw(w, get32(w->message + 4) < get32(w->keeper + get16(w->message + 2) * SLOT) ? REPORT_TOO_LATE : REPORT_SETTLES);
     lend(w, MESSAGE, w->message, REPORT);
     if (call(w, REPORTS).refusal)
         say(w, ANSWERS, "a report was refused");
@@ -189,7 +200,9 @@ static void refused_call(struct world *w)
         spoil(w, size);
     }
     struct answer answer = call(w, name);
-    if (!answer.refusal && (name == WRITES || name == REPORTS))
+    if (answer.refusal)
+        saw(w, CALL_REFUSED);
+    else if (name == WRITES || name == REPORTS)
         say(w, ANSWERS, "a spoilt message was taken");
 }
 
@@ -219,28 +232,35 @@ static void step(struct world *w)
 
 /* ---- Worlds. */
 
-/* The second half of demand 3: a slot in which the ends differ is open. */
-static int halves_meet(const struct world *w)
+/* In how many slots the ends differ. Demand 3's second half: each of them is open. */
+static size_t slots_apart(struct world *w)
 {
-    for (size_t i = 0; i < w->asked.part[TABLE].length; i += SLOT)
-        if (!same_entry(w->table + i, w->keeper + i) && !is_open(w->keeper + i))
-            return 0;
-    return 1;
+    size_t apart = 0;
+
+    for (size_t i = 0; i < w->asked.part[TABLE].length; i += SLOT) {
+        if (same_entry(w->table + i, w->keeper + i))
+            continue;
+        apart++;
+        if (!is_open(w->keeper + i))
+            say(w, HALF_TWO, "the ends differ in a slot that is not open");
+    }
+    return apart;
 }
 
 static void look(struct world *w)
 {
     if ((w->checks & HALF_ONE) && watch_table(&w->watch, w->table) != NULL)
         say(w, HALF_ONE, "the table names another than the best rule");
-    if ((w->checks & HALF_TWO) && !halves_meet(w))
-        say(w, HALF_TWO, "the ends differ in a slot that is not open");
+    if (slots_apart(w) > 0)
+        saw(w, ENDS_APART);
 }
 
-static void begin(struct world *w, const struct plan *plan, uint64_t seed)
+/* The first world has one slot, the second as many as there may be. */
+static void begin(struct world *w, const struct plan *plan, unsigned number, uint64_t seed)
 {
-    struct random r = {seed};
+    struct random r = {seed + number};
     size_t rules = plan->full ? plan->most_rules : random_below(&r, plan->most_rules + 1);
-    size_t slots = 1 + random_below(&r, plan->most_slots);
+    size_t slots = number == 0 ? 1 : number == 1 ? plan->most_slots : 1 + random_below(&r, plan->most_slots);
 
     make_field(&r, &w->field, 2 + (unsigned)random_below(&r, plan->most_positions - 1));
     make_policy(&r, &w->field, w->policy, rules);
@@ -264,14 +284,14 @@ static void begin(struct world *w, const struct plan *plan, uint64_t seed)
 struct report link_run(const struct calls *calls, enum wrong way, unsigned checks, const struct plan *plan, uint64_t seed)
 {
     static struct world w;
-    struct report none = {0, 0, 0, "nothing", 0};
+    struct report none = {0, 0, 0, "nothing", 0, {0}};
 
     w.calls = calls;
     w.way = way;
     w.checks = checks;
     w.report = none;
     for (unsigned world = 0; world < plan->worlds && !w.report.reported; world++) {
-        begin(&w, plan, seed + world);
+        begin(&w, plan, world, seed);
         w.report.world = world;
         for (unsigned i = 0; i < plan->steps && !w.report.reported; i++) {
             w.report.step = i;

@@ -15,12 +15,17 @@ struct plan {
     int full;
 };
 
+/* What has to have happened for a run to say anything. */
+enum event {
+    A_HIT, NO_RULE, TO_EMPTY, OVER_ENTRY, GIVEN_AGAIN, WRITE_STORED, WRITE_TOO_LATE, REPORT_SETTLES, REPORT_TOO_LATE, CALL_REFUSED, ENDS_APART, EVENTS
+};
+
 /* What was found: nothing (0) or the check that reported, in which world and step, and in words. */
 struct report {
     unsigned reported;
     unsigned world, step;
     const char *words;
-    unsigned long steps_made;
+    unsigned long steps_made, seen[EVENTS];
 };
 
 /* Runs these ends, wrong in this way where they are the plain ones, under these checks, up to the first report. */

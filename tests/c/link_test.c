@@ -7,7 +7,7 @@
 
 /* Small worlds, in which everything meets everything; middle ones; and full ones. */
 static const struct plan plans[] = {
-    {2500, 400, 8, 4, 6, 0}, {60, 1500, 64, 32, 12, 0}, {12, 500, 1024, 256, 40, 1}
+    {5000, 400, 8, 4, 6, 0}, {200, 1500, 64, 32, 12, 0}, {40, 500, 1024, 256, 40, 1}
 };
 enum { PLANS = sizeof plans / sizeof plans[0] };
 
@@ -42,6 +42,13 @@ static void test_wrong(uint64_t seed)
         }
 }
 
+/* Every event, in words. */
+static const char *const events[EVENTS] = {
+    [A_HIT] = "hits", [NO_RULE] = "without a rule", [TO_EMPTY] = "written to an empty slot", [OVER_ENTRY] = "written over an entry",
+    [GIVEN_AGAIN] = "given again", [WRITE_STORED] = "writes stored", [WRITE_TOO_LATE] = "writes too late", [REPORT_SETTLES] = "reports of the entry",
+    [REPORT_TOO_LATE] = "reports too late", [CALL_REFUSED] = "refused calls", [ENDS_APART] = "steps with the ends apart"
+};
+
 void test_link(const struct calls *calls, uint64_t seed)
 {
     unsigned long steps = 0;
@@ -49,9 +56,13 @@ void test_link(const struct calls *calls, uint64_t seed)
     for (int i = 0; i < PLANS; i++) {
         struct report r = link_run(calls, RIGHT, HALF_ONE | HALF_TWO | ANSWERS, &plans[i], seed + 1000000 * (unsigned)i);
         check(r.reported == 0, "plan %d, world %u, step %u: %s", i, r.world, r.step, r.words);
+        printf("link, at most %u rules and %u slots: %lu steps;", (unsigned)plans[i].most_rules, (unsigned)plans[i].most_slots, r.steps_made);
+        for (int event = 0; event < EVENTS; event++) {
+            printf(" %lu %s%s", r.seen[event], events[event], event + 1 < EVENTS ? "," : "\n");
+            check(r.seen[event] > 0, "plan %d has %s", i, events[event]);
+        }
         steps += r.steps_made;
     }
     check(steps >= 1000000, "at least a million steps");
-    printf("link: %lu steps\n", steps);
     test_wrong(seed);
 }

@@ -82,7 +82,7 @@ void test_stack(const struct calls *calls)
 {
     /* the page below the stack may not be touched */
     uint8_t *memory = mmap(NULL, PAGE + STACK, PROT_READ | PROT_WRITE, MAP_PRIVATE | MAP_ANONYMOUS, -1, 0);
-    size_t most = 0;
+    size_t most = 0, deepest = 0;
 
     if (memory == MAP_FAILED || mprotect(memory, PAGE, PROT_NONE) != 0) {
         check(0, "memory for a stack");
@@ -100,9 +100,11 @@ void test_stack(const struct calls *calls)
         check(touched > 0 && same_answer(&errand.answer, &right) && lent_same(&lent, &plain), "%s at its largest on a small stack",
               call_list[call].name);
         check(right.refusal == 0, "%s at its largest is accepted", call_list[call].name);
-        if (touched > most)
+        if (touched > most) {
             most = touched;
+            deepest = (size_t)call;
+        }
     }
-    printf("stack: the deepest call touched %u of %u bytes\n", (unsigned)most, (unsigned)STACK);
+    printf("stack: %s goes deepest, %u of %u bytes\n", call_list[deepest].name, (unsigned)most, (unsigned)STACK);
     munmap(memory, PAGE + STACK);
 }
