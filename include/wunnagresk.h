@@ -52,7 +52,7 @@
  * A buffer is a pointer and then its count of bytes. The pointer may be NULL where the count is 0. Bytes need no alignment. Buffers lent together
  * must not overlap: no two buffers of one call may share a byte. Only the buffers that are not const are ever written. The library keeps no
  * pointer, allocates nothing, and has no state but what it is lent; so calls that share no buffer which one of them may write can run at the same
- * time. Each call fits a stack of 64 KiB. No contents of any buffer, and no length, make a call fail or run on.
+ * time. No contents of any buffer, and no length, make a call fail or run on. Each call fits a stack of 64 KiB (tested, not proved).
  *
  * ANSWERS AND REFUSALS
  *

@@ -8,7 +8,7 @@
 #include "make.h"
 #include "tests.h"
 
-enum { ROUNDS = 60000, FULL_ROUNDS = 150 };
+enum { ROUNDS = 60000, FULL_ROUNDS = 150, MOST_OUT = 3000 };
 
 static struct lent before, lent, plain;
 
@@ -56,17 +56,41 @@ static void make_message(struct random *r, const struct field *field, enum call_
     lent_put(&before, MESSAGE, message, call == REPORTS ? REPORT : WRITE);
 }
 
-/* An output that is often just long enough, or one byte short of something. */
-static void make_out(struct random *r, size_t packets)
+/* An output of that many bytes, none of them 0. */
+static void put_out(size_t length)
 {
-    static const size_t lengths[] = {0, 1, 2, 11, 12, 13, 25, 26, 39, 40, 41, 2048, 3000};
-    size_t length = random_one_in(r, 2) ? packets * OUTCOME + random_below(r, 3) : lengths[random_below(r, 13)];
+    static uint8_t filling[MOST_OUT];
 
-    memset(before.store[OUT] + GUARD, (int)random_below(r, 256), 3000);
-    lent_put(&before, OUT, before.store[OUT] + GUARD, length);
+    memset(filling, 0xC3, length);
+    lent_put(&before, OUT, filling, length);
 }
 
-/* Some fault, if the call has it and the inputs have its record; the output has been made short already. */
+/* Bytes of an accepted answer. */
+static size_t answer_bytes(enum call_name call, const struct answer *answer)
+{
+    switch (call) {
+    case COVER: case OPEN: return 2 * (size_t)answer->field[0];
+    case ISOLATE: return 2 * KEY;
+    case LOOKUP: return answer->field[0] ? REPORT : 0;
+    case WRITES: return REPORT;
+    case MISS: return answer->field[0] == 0 || answer->field[0] == 4 ? 0 : WRITE;
+    case RUN: return OUTCOME * (size_t)answer->field[0];
+    default: return 0;
+    }
+}
+
+/* An output that is one byte short of the answer, just long enough, or longer; where the call is refused anyway it stays as long as can be. */
+static void make_out(struct random *r, enum call_name call)
+{
+    put_out(MOST_OUT);
+    lent_copy(&plain, &before);
+    struct answer answer = call_list[call].ask(&plain_ends, &plain.asked);
+    size_t needed = answer_bytes(call, &answer);
+    if (answer.refusal == 0 && !random_one_in(r, 8))
+        put_out(needed + random_below(r, 3) - (needed > 0));
+}
+
+/* Some fault, if the call has it and the inputs have its record; the output is made short elsewhere. */
 static void make_fault(struct random *r, enum call_name call, struct size size)
 {
     const struct fault *fault = &fault_list[random_below(r, fault_count)];
@@ -96,11 +120,11 @@ static void make_case(struct random *r, enum call_name call, struct size size)
     make_trace(r, &field, size.packets);
     make_totals(r);
     make_message(r, &field, call, size.slots);
-    make_out(r, size.packets);
     size_t best = best_of(before.store[POLICY] + GUARD, size.rules, key);
     before.asked.number = random_one_in(r, 2) ? best : random_below(r, size.rules + 2);
     if (random_one_in(r, 8))
         make_fault(r, call, size);
+    make_out(r, call);
     if (random_one_in(r, 2))
         lent_null(&before);
 }

@@ -30,6 +30,10 @@ int main(int count, char **words)
     tell("differences from the plain reading");
     test_stack(&library);
     tell("a stack of 64 KiB");
+    if (library.run != NULL) {
+        test_runs(&library, seed);
+        tell("runs, whole and cut");
+    }
     test_link(&library, seed);
     tell("both ends over a link");
     printf("%u passed, %u failed\n", checks_passed(), checks_failed());

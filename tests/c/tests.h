@@ -16,6 +16,9 @@ void test_differences(const struct calls *calls, uint64_t seed);
 /* Every call at its largest, on a thread with a stack of 64 KiB. */
 void test_stack(const struct calls *calls);
 
+/* Runs of a trace, whole and cut in two. Only where there is a wg_run. */
+void test_runs(const struct calls *calls, uint64_t seed);
+
 /* Demand 3 over a link, and that the same test reports every wrong end. */
 void test_link(const struct calls *calls, uint64_t seed);
 
