@@ -9,7 +9,7 @@ use native.Mathlib.Omega.{arith}
 use lib.Dec.{ltb, eqb}
 use lib.ListN.{length}
 use borrow.Author.Tests.{lt-ltb, le-ltb, ltb-true, eqb-true, eq-eqb, ne-eqb}
-use Rattle.model.specs.Policy.{Rule, best}
+use Rattle.model.specs.Policy.{best}
 use Rattle.model.specs.Refusals.{ragged, noSuchRule, notBest}
 use Rattle.model.proofs.Cases.{clash}
 use Rattle.ternary.specs.Sizes.{keySize, positions}
@@ -18,22 +18,15 @@ use Rattle.checks.specs.Refusals.{refusal}
 use Rattle.checks.specs.declared.refusal.Refusal.{Refusal}
 use Rattle.checks.proofs.RefusalLaws.{none-first, need-none}
 use Rattle.policy.specs.Refusals.{policyRefusal, keyRefusal}
-use Rattle.policy.specs.Best.{foundOf, bestFound}
+use Rattle.policy.specs.Best.{bestFound}
 use Rattle.policy.specs.declared.BestFound.{BestFound}
 use Rattle.policy.specs.declared.BestFound.the-variants.{NoRule, Rule as Found}
 use Rattle.policy.proofs.CheckLaws.{passed-few}
+use Rattle.policy.proofs.BestLaws.{found-none, found-rule}
 use Rattle.rounds.specs.Ready.{Ready}
 use Rattle.isolate.specs.Answers.{isBest, isolateRefusal, saidOf}
 use Rattle.isolate.specs.declared.Said.{Said}
 use Rattle.isolate.specs.declared.Said.the-variants.{Refused, Isolated}
-
-found-none : (pol : List Rule) (o : Option ℕ) → foundOf pol o ≡ NoRule → o ≡ none
-found-none pol none e = refl
-found-none pol (some i) e = let z : _≡_ {A = ℕ} 0 1 = cc in absurd (omega arith)
-
-found-some : (pol : List Rule) (o : Option ℕ) (i a : ℕ) → foundOf pol o ≡ Found i a → o ≡ some i
-found-some pol none i a e = let z : _≡_ {A = ℕ} 0 1 = cc in absurd (omega arith)
-found-some pol (some j) i a e = cc
 
 -- ---- each way out
 
@@ -58,21 +51,21 @@ module _ (policy key : List ℕ) (number : ℕ) where
       -- the key's best rule, as it was found
       module _ (low : number < ruleCount keySize policy) (b : BestFound) (e : b ≡ bestFound policy key) where
         pub said-none : b ≡ NoRule → says (Refused (refusal notBest 0))
-        unfolding isolateRefusal keyRefusal bestFound
+        unfolding isolateRefusal keyRefusal
         said-none t =
-            let is : best positions (rules keySize policy) key ≡ none = found-none (rules keySize policy) _ (sym e ∙ t) in
+            let is : best positions (rules keySize policy) key ≡ none = found-none policy key (sym e ∙ t) in
             rw (fine, eq-eqb _ _ long, lt-ltb _ _ low, is)
 
         pub said-other : (i a : ℕ) → b ≡ Found i a → i ≢ number → says (Refused (refusal notBest 0))
-        unfolding isolateRefusal keyRefusal bestFound
+        unfolding isolateRefusal keyRefusal
         said-other i a t h =
-            let is : best positions (rules keySize policy) key ≡ some i = found-some (rules keySize policy) _ i a (sym e ∙ t) in
+            let is : best positions (rules keySize policy) key ≡ some i = found-rule policy key i a (sym e ∙ t) in
             rw (fine, eq-eqb _ _ long, lt-ltb _ _ low, is, ne-eqb i number h)
 
         pub said-isolated : (i a : ℕ) → b ≡ Found i a → i ≡ number → says Isolated
-        unfolding isolateRefusal keyRefusal bestFound
+        unfolding isolateRefusal keyRefusal
         said-isolated i a t h =
-            let is : best positions (rules keySize policy) key ≡ some i = found-some (rules keySize policy) _ i a (sym e ∙ t) in
+            let is : best positions (rules keySize policy) key ≡ some i = found-rule policy key i a (sym e ∙ t) in
             rw (fine, eq-eqb _ _ long, lt-ltb _ _ low, is, eq-eqb i number h)
 
 -- ---- where the rule is isolated
