@@ -17,3 +17,8 @@ orElse none later = later
 abbrev pub need : Bool → ℕ → Option Refusal → Option Refusal
 need true number later = later
 need false number later = some (refusal number 0)
+
+-- the one where the call is refused, the other where it is not
+abbrev pub unlessRefused : {A : Type 0} → Option Refusal → A → A → A
+unlessRefused (some r) old new = old
+unlessRefused none old new = new

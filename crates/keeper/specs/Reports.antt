@@ -11,7 +11,7 @@ use Rattle.model.specs.Ends.{reportRefusal, isCurrent, confirmed, afterReport}
 use Rattle.model.specs.Refusals.{ragged, wrongKind, badRecord}
 use Rattle.ternary.specs.Sizes.{keySize}
 use Rattle.records.specs.Layout.{reportKind, reportSize, isReport}
-use Rattle.checks.specs.Refusals.{refusal, orElse, need}
+use Rattle.checks.specs.Refusals.{refusal, orElse, need, unlessRefused}
 use Rattle.checks.specs.declared.refusal.Refusal.{Refusal}
 use Rattle.checks.specs.Flaws.{isFlawed, reportFlaw}
 use Rattle.slots.specs.Slots.{slots, putSlot}
@@ -55,14 +55,9 @@ pub record ReportTaken (keeper : List ℕ) (x : Report) (keeper′ : List ℕ) :
   pub bytes : keeper′ ≡ reportBytes keeper x
   pub meaning : slots keySize keeper′ ≡ afterReport (slots keySize keeper) x
 
--- what a refusal leaves as it was
-abbrev pub leftOf : {A : Type 0} → Option Refusal → A → A → A
-leftOf (some r) was becomes = was
-leftOf none was becomes = becomes
-
 -- the answer; the keeper after it, byte by byte; and its slots
 pub record Reported (keeper message : List ℕ) (r : ReportAnswer) (keeper′ : List ℕ) : Type 0 where
   pub answer : r ≡ reportAnswer keeper message
-  pub bytes : keeper′ ≡ leftOf (reportRefused keeper message) keeper (reportBytes keeper (decodeReport message))
+  pub bytes : keeper′ ≡ unlessRefused (reportRefused keeper message) keeper (reportBytes keeper (decodeReport message))
   pub meaning : slots keySize keeper′
-      ≡ leftOf (reportRefused keeper message) (slots keySize keeper) (afterReport (slots keySize keeper) (decodeReport message))
+      ≡ unlessRefused (reportRefused keeper message) (slots keySize keeper) (afterReport (slots keySize keeper) (decodeReport message))

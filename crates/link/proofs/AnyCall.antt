@@ -11,6 +11,7 @@ use Rattle.model.specs.Ends.{Miss, noRule, again, place, usedUp, missKeeper, is
 use Rattle.model.proofs.Cases.{by-cases}
 use Rattle.ternary.specs.Sizes.{keySize}
 use Rattle.records.specs.Layout.{reportHits}
+use Rattle.checks.specs.Refusals.{unlessRefused}
 use Rattle.checks.specs.declared.refusal.Refusal.{Refusal}
 use Rattle.checks.proofs.RefusalLaws.{none-first}
 use Rattle.slots.specs.Slots.{slotCount, slots, putSlot}
@@ -21,7 +22,7 @@ use Rattle.policy.specs.Refusals.{policyRefusal, keyRefusal}
 use Rattle.policy.specs.Answers.{bestRefusal}
 use Rattle.policy.proofs.Acceptance.{accepted-bytes}
 use Rattle.received.proofs.AfterLaws.{after-lookup, after-write}
-use Rattle.keeper.specs.Reports.{leftOf, reportRefused, reportAnswer, reportBytes}
+use Rattle.keeper.specs.Reports.{reportRefused, reportAnswer, reportBytes}
 use Rattle.keeper.proofs.ReportLaws.{accepted-of}
 use Rattle.verdict.specs.Decisions.{missIn}
 use Rattle.miss.specs.Answers.{partsRefusal, missRefused, missBytes}
@@ -48,7 +49,7 @@ module _ {count : ℕ} {s : State} (f : Formed count s) where
 
   miss-meant : (policy key : List ℕ) (room : ℕ) → Bytes policy → (o : Option Refusal) → missRefused policy key (s .keeper) room ≡ o
       → let m = missIn policy key (s .keeper) in
-      slots keySize (leftOf o (s .keeper) (missBytes (s .keeper) m)) ≡ leftOf o k (missKeeper k m)
+      slots keySize (unlessRefused o (s .keeper) (missBytes (s .keeper) m)) ≡ unlessRefused o k (missKeeper k m)
   unfolding missRefused partsRefusal bestRefusal
   miss-meant policy key room b (some x) e = refl
   miss-meant policy key room b none e =
@@ -60,7 +61,7 @@ module _ {count : ℕ} {s : State} (f : Formed count s) where
   -- ---- a report
 
   report-meant : (m : List ℕ) → Bytes m → (o : Option Refusal) → reportRefused (s .keeper) m ≡ o
-      → slots keySize (leftOf o (s .keeper) (reportBytes (s .keeper) (decodeReport m))) ≡ leftOf o k (afterReport k (decodeReport m))
+      → slots keySize (unlessRefused o (s .keeper) (reportBytes (s .keeper) (decodeReport m))) ≡ unlessRefused o k (afterReport k (decodeReport m))
   unfolding reportAnswer reportBytes afterReport decodeReport
   report-meant m b (some x) e = refl
   report-meant m b none e =

@@ -17,7 +17,7 @@ use Rattle.model.proofs.Cases.{by-cases}
 use Rattle.ternary.specs.Sizes.{keySize}
 use Rattle.buffers.specs.Parts.{splice}
 use Rattle.records.specs.Layout.{writeSize}
-use Rattle.checks.specs.Refusals.{refusal}
+use Rattle.checks.specs.Refusals.{refusal, unlessRefused}
 use Rattle.checks.specs.declared.refusal.Refusal.{Refusal}
 use Rattle.checks.proofs.RefusalLaws.{none-first, need-none}
 use Rattle.slots.specs.Slots.{slots, putSlot}
@@ -32,7 +32,6 @@ use Rattle.policy.specs.Answers.{checkAnswer, bestRefusal}
 use Rattle.policy.specs.declared.PolicyAnswer.{PolicyAnswer}
 use Rattle.policy.specs.declared.PolicyAnswer.the-variants.{Refused as BadPolicy, Rules}
 use Rattle.policy.proofs.CheckLaws.{check-refused, check-passed, passed-few}
-use Rattle.keeper.specs.Reports.{leftOf}
 use Rattle.verdict.specs.Decisions.{Fine, givesWrite, deciding, missIn, DecidedAs}
 use Rattle.miss.specs.Answers.{partsRefusal, checkedOf, roomRefusal, missRefused, answerOf, outWith, MissedAs, OnMiss, Missed}
 use Rattle.miss.specs.Answers.{placesEntry, EntryPlaced, CarriedOut}
@@ -173,26 +172,26 @@ module _ (policy keeper out : List ℕ) {d : Decision} {r : MissAnswer} {keeper�
     answer-given : {x : Outcome} → asOutcome (d .outcome) ≡ x → r ≡ answerOf refused x
     answer-given e = (rw g at (c .answer)) ∙ ap (answerOf refused) e
 
-    out-given : asWrite (d .write) ≡ w → out′ ≡ leftOf refused out (outWith (some w) out)
-    out-given e = (rw g at (c .given)) ∙ ap (λ (x : Write). leftOf refused out (splice 0 (encodeWrite x) out)) e
+    out-given : asWrite (d .write) ≡ w → out′ ≡ unlessRefused refused out (outWith (some w) out)
+    out-given e = (rw g at (c .given)) ∙ ap (λ (x : Write). unlessRefused refused out (splice 0 (encodeWrite x) out)) e
 
     -- outcome 5 leaves the keeper
-    bytes-left : placesEntry n ≡ false → keeper′ ≡ leftOf refused keeper keeper
+    bytes-left : placesEntry n ≡ false → keeper′ ≡ unlessRefused refused keeper keeper
     bytes-left p = rw (g, p) at (c .bytes)
 
-    slots-left : placesEntry n ≡ false → slots keySize keeper′ ≡ leftOf refused k k
+    slots-left : placesEntry n ≡ false → slots keySize keeper′ ≡ unlessRefused refused k k
     slots-left p = rw (g, p) at (c .meaning)
 
     -- outcomes 2 and 3 place the entry
     bytes-placed : placesEntry n ≡ true → asWrite (d .write) ≡ w
-        → keeper′ ≡ leftOf refused keeper (putSlot keySize keeper (w .slot) (written (entryIn w)))
+        → keeper′ ≡ unlessRefused refused keeper (putSlot keySize keeper (w .slot) (written (entryIn w)))
     bytes-placed p e =
-        (rw (g, p) at (c .bytes)) ∙ ap (λ (x : Write). leftOf refused keeper (putSlot keySize keeper (x .slot) (written (entryIn x)))) e
+        (rw (g, p) at (c .bytes)) ∙ ap (λ (x : Write). unlessRefused refused keeper (putSlot keySize keeper (x .slot) (written (entryIn x)))) e
 
     slots-placed : placesEntry n ≡ true → asWrite (d .write) ≡ w
-        → slots keySize keeper′ ≡ leftOf refused k (set k (w .slot) (written (entryIn w)))
+        → slots keySize keeper′ ≡ unlessRefused refused k (set k (w .slot) (written (entryIn w)))
     slots-placed p e =
-        (rw (g, p) at (c .meaning)) ∙ ap (λ (x : Write). leftOf refused k (set k (x .slot) (written (entryIn x)))) e
+        (rw (g, p) at (c .meaning)) ∙ ap (λ (x : Write). unlessRefused refused k (set k (x .slot) (written (entryIn x)))) e
 
   silent : (number : ℕ) → givesWrite number ≡ false → n ≡ number → givesWrite n ≡ false
   silent number g e = rw e g

@@ -13,7 +13,7 @@ use Rattle.model.specs.Refusals.{shortOutput}
 use Rattle.ternary.specs.Sizes.{keySize}
 use Rattle.buffers.specs.Parts.{splice}
 use Rattle.records.specs.Layout.{writeSize}
-use Rattle.checks.specs.Refusals.{orElse, need}
+use Rattle.checks.specs.Refusals.{orElse, need, unlessRefused}
 use Rattle.checks.specs.declared.refusal.Refusal.{Refusal}
 use Rattle.slots.specs.Slots.{slots, putSlot}
 use Rattle.slots.specs.Refusals.{slotsRefusal}
@@ -22,7 +22,6 @@ use Rattle.messages.specs.Structs.{asWrite}
 use Rattle.outcomes.specs.Outcomes.{asOutcome}
 use Rattle.outcomes.specs.declared.Outcome.{Outcome as OutcomeStruct}
 use Rattle.policy.specs.Answers.{bestRefusal}
-use Rattle.keeper.specs.Reports.{leftOf}
 use Rattle.verdict.specs.Decisions.{givesWrite, deciding, missIn}
 use Rattle.verdict.specs.declared.Decision.{Decision}
 use Rattle.miss.specs.declared.Parts.{Parts}
@@ -76,9 +75,9 @@ outWith (some w) out = splice 0 (encodeWrite w) out
 pub record MissedAs (policy keeper : List ℕ) (m : Miss) (refused : Option Refusal) (out : List ℕ) (r : MissAnswer)
     (keeper′ out′ : List ℕ) : Type 0 where
   pub answer : r ≡ answerOf refused (missOutcome (deciding policy) (slots keySize keeper) m)
-  pub bytes : keeper′ ≡ leftOf refused keeper (missBytes keeper m)
-  pub meaning : slots keySize keeper′ ≡ leftOf refused (slots keySize keeper) (missKeeper (slots keySize keeper) m)
-  pub given : out′ ≡ leftOf refused out (outWith (missWrite (slots keySize keeper) m) out)
+  pub bytes : keeper′ ≡ unlessRefused refused keeper (missBytes keeper m)
+  pub meaning : slots keySize keeper′ ≡ unlessRefused refused (slots keySize keeper) (missKeeper (slots keySize keeper) m)
+  pub given : out′ ≡ unlessRefused refused out (outWith (missWrite (slots keySize keeper) m) out)
 
 -- the call without its checks
 abbrev pub OnMiss : List ℕ → List ℕ → List ℕ → List ℕ → MissAnswer → List ℕ → List ℕ → Type 0
@@ -109,10 +108,10 @@ pub record EntryPlaced (outcome : ℕ) (w : Write) (keeper keeper′ : List ℕ)
 
 pub record CarriedOut (d : Decision) (keeper out : List ℕ) (r : MissAnswer) (keeper′ out′ : List ℕ) : Type 0 where
   pub answer : r ≡ answerOf (shortRefusal (d .outcome .outcome) (length out)) (asOutcome (d .outcome))
-  pub bytes : keeper′ ≡ leftOf (shortRefusal (d .outcome .outcome) (length out)) keeper
+  pub bytes : keeper′ ≡ unlessRefused (shortRefusal (d .outcome .outcome) (length out)) keeper
       (cond (placesEntry (d .outcome .outcome)) (putSlot keySize keeper (d .write .slot) (written (entryIn (asWrite (d .write))))) keeper)
-  pub meaning : slots keySize keeper′ ≡ leftOf (shortRefusal (d .outcome .outcome) (length out)) (slots keySize keeper)
+  pub meaning : slots keySize keeper′ ≡ unlessRefused (shortRefusal (d .outcome .outcome) (length out)) (slots keySize keeper)
       (cond (placesEntry (d .outcome .outcome)) (set (slots keySize keeper) (d .write .slot) (written (entryIn (asWrite (d .write)))))
       (slots keySize keeper))
-  pub given : out′ ≡ leftOf (shortRefusal (d .outcome .outcome) (length out)) out
+  pub given : out′ ≡ unlessRefused (shortRefusal (d .outcome .outcome) (length out)) out
       (cond (givesWrite (d .outcome .outcome)) (splice 0 (encodeWrite (asWrite (d .write))) out) out)

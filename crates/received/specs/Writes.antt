@@ -12,7 +12,7 @@ use Rattle.model.specs.Ends.{afterWrite, writeReport}
 use Rattle.ternary.specs.Sizes.{keySize}
 use Rattle.buffers.specs.Parts.{splice, spelled}
 use Rattle.records.specs.Layout.{writeKind, isWrite, writeSize, reportSize}
-use Rattle.checks.specs.Refusals.{orElse, need}
+use Rattle.checks.specs.Refusals.{orElse, need, unlessRefused}
 use Rattle.checks.specs.Flaws.{isFlawed, writeFlaw}
 use Rattle.checks.specs.declared.refusal.Refusal.{Refusal}
 use Rattle.checks.specs.declared.flaw.Flaw.the-variants.{Clean}
@@ -20,7 +20,7 @@ use Rattle.slots.specs.Slots.{encodeSlot, slotCount, slots}
 use Rattle.slots.specs.Refusals.{slotsRefusal, WholeSlots}
 use Rattle.messages.specs.Writes.{decodeWrite}
 use Rattle.messages.specs.Reports.{encodeReport}
-use Rattle.table.specs.Lookups.{roomRefusal, unlessRefused}
+use Rattle.table.specs.Lookups.{roomRefusal}
 use Rattle.received.specs.declared.write.WriteAnswer.{WriteAnswer}
 use Rattle.received.specs.declared.write.WriteAnswer.the-variants.{Refused, Taken}
 

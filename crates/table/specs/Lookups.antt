@@ -11,7 +11,7 @@ use Rattle.model.specs.Ends.{Hit, counted, firstFor, lookup, afterLookup}
 use Rattle.ternary.specs.Sizes.{keySize, positions}
 use Rattle.buffers.specs.Parts.{splice, spelled}
 use Rattle.records.specs.Layout.{reportSize}
-use Rattle.checks.specs.Refusals.{orElse, need}
+use Rattle.checks.specs.Refusals.{orElse, need, unlessRefused}
 use Rattle.checks.specs.declared.refusal.Refusal.{Refusal}
 use Rattle.slots.specs.Slots.{encodeSlot, slotIn, slots, SlotPut}
 use Rattle.slots.specs.Refusals.{slotsRefusal, WholeSlots}
@@ -58,11 +58,6 @@ pub record Counted (table : List ℕ) (i : ℕ) (x : Slot) (after : List ℕ) : 
   pub put : SlotPut keySize table i x after
 
 -- ---- the call
-
--- the one where the call is refused, the other where it is not
-abbrev pub unlessRefused : {A : Type 0} → Option Refusal → A → A → A
-unlessRefused (some r) old new = old
-unlessRefused none old new = new
 
 -- the refusal, or what the table answers
 abbrev pub answerOf : Option Refusal → Option Hit → LookupAnswer

@@ -26,9 +26,10 @@ use Rattle.slots.proofs.SlotLaws.{slot-count, slot-at}
 use Rattle.slots.proofs.HoldingLaws.{found-nowhere, found-at}
 use Rattle.messages.specs.Structs.{asWrite}
 use Rattle.outcomes.specs.Outcomes.{asOutcome}
-use Rattle.policy.specs.Best.{foundOf, bestFound}
+use Rattle.policy.specs.Best.{bestFound}
 use Rattle.policy.specs.declared.BestFound.{BestFound}
 use Rattle.policy.specs.declared.BestFound.the-variants.{NoRule, Rule}
+use Rattle.policy.proofs.BestLaws.{found-none, found-rule, found-action, best-below}
 use Rattle.verdict.specs.Decisions.{Fine, RuleFor, deciding, missWith, placeMiss, ruleMiss, missIn, DecidedAs, NoWrite, placedOutcome}
 use Rattle.verdict.specs.declared.Decision.{Decision}
 
@@ -107,37 +108,20 @@ module _ (policy key keeper : List ℕ) where
   abbrev pol : List PolicyRule
   pol = rules keySize policy
 
-  none-of : (o : Option ℕ) → foundOf pol o ≡ NoRule → o ≡ none
-  none-of none e = refl
-  none-of (some i) e = let z : _≡_ {A = ℕ} 0 1 = cc in absurd (omega arith)
-
-  rule-of : (o : Option ℕ) {number action : ℕ} → foundOf pol o ≡ Rule number action → (o ≡ some number) × (action ≡ (ruleAt pol number) .action)
-  rule-of none e = let z : _≡_ {A = ℕ} 0 1 = cc in absurd (omega arith)
-  rule-of (some i) {number} {action} e =
-      let same : i ≡ number = cc in
-      let acts : (ruleAt pol i) .action ≡ action = cc in
-      (ap some same, sym (rw same at acts))
-
   pub no-rule : {b : BestFound} {d : Decision} → Fine policy key keeper → b ≡ bestFound policy key → b ≡ NoRule → NoWrite 0 0 nothing d
       → DecidedAs policy keeper (missIn policy key keeper) d
-  unfolding bestFound onMiss
+  unfolding onMiss
   no-rule fine e t is =
-      rw (none-of (best positions pol key) (sym e ∙ t))
+      rw (found-none policy key (sym e ∙ t))
       (record { outcome = is .told; write = tt; inside = omega (arith, is .slot-0, fine .whole .some-there) })
 
   pub rule-for : {b : BestFound} {number action : ℕ} → Fine policy key keeper → b ≡ bestFound policy key → b ≡ Rule number action
       → RuleFor policy key number action
-  unfolding bestFound best
-  rule-for {b} {number} fine e t =
-      let is = rule-of (best positions pol key) (sym e ∙ t) in
+  rule-for {b} {number} {action} fine e t =
+      let is = found-rule policy key number action (sym e ∙ t) in
       record {
-        ready = record {
-          low = omega (arith, foremost-some (ruleMatches positions pol key) (before pol) (length pol) number (is .0) .0, rule-count keySize policy);
-          few = fine .few;
-          long = fine .long;
-          is-best = is .0;
-        };
-        acts = is .1;
+        ready = record { low = best-below policy key number is; few = fine .few; long = fine .long; is-best = is };
+        acts = found-action policy key number action (sym e ∙ t);
       }
 
   pub has-rule : {number action : ℕ} {d : Decision} → RuleFor policy key number action

@@ -1,0 +1,117 @@
+// The answers about a policy as numbers.
+use crate::structs;
+use crate::structs::WgBestAnswer;
+use crate::structs::WgCount;
+use crate::structs::WgShown;
+use cover::CoverAnswer;
+use decision::ShowAnswer;
+use policy::BestAnswer;
+use policy::PolicyAnswer;
+use records::layout;
+ghost use mathlib.Core.Path.{_≡_};
+ghost use Rattle.answers.specs.Policy.{checkedNumbers, bestNumbers, coveredNumbers, shownNumbers};
+
+// Of the check.
+pub fn checked_numbers(answer: PolicyAnswer) -> WgCount
+    ensures { λ r. ⌜ r ≡ checkedNumbers answer ⌝ }
+{
+    match answer {
+        PolicyAnswer::Refused(refusal) => WgCount {
+            refusal: refusal.number,
+            place: refusal.place,
+            count: 0,
+        },
+        PolicyAnswer::Rules(count) => WgCount {
+            refusal: 0,
+            place: 0,
+            count,
+        },
+    }
+}
+
+// Of the best rule.
+pub fn best_numbers(answer: BestAnswer) -> WgBestAnswer
+    ensures { λ r. ⌜ r ≡ bestNumbers answer ⌝ }
+{
+    match answer {
+        BestAnswer::Refused(refusal) => WgBestAnswer {
+            refusal: refusal.number,
+            place: refusal.place,
+            found: 0,
+            rule: 0,
+            action: 0,
+        },
+        BestAnswer::NoRule => WgBestAnswer {
+            refusal: 0,
+            place: 0,
+            found: 0,
+            rule: structs::NOTHING,
+            action: 0,
+        },
+        BestAnswer::Rule(rule, action) => WgBestAnswer {
+            refusal: 0,
+            place: 0,
+            found: 1,
+            rule,
+            action,
+        },
+    }
+}
+
+// Of the cover list.
+pub fn covered_numbers(answer: CoverAnswer) -> WgCount
+    ensures { λ r. ⌜ r ≡ coveredNumbers answer ⌝ }
+{
+    match answer {
+        CoverAnswer::Refused(refusal) => WgCount {
+            refusal: refusal.number,
+            place: refusal.place,
+            count: 0,
+        },
+        CoverAnswer::Count(count) => WgCount {
+            refusal: 0,
+            place: 0,
+            count,
+        },
+    }
+}
+
+// Of showing the decision.
+pub fn shown_numbers(answer: ShowAnswer) -> WgShown
+    ensures { λ r. ⌜ r ≡ shownNumbers answer ⌝ }
+{
+    match answer {
+        ShowAnswer::Refused(refusal) => WgShown {
+            refusal: refusal.number,
+            place: refusal.place,
+            source: structs::FROM_NOTHING,
+            number: 0,
+            offset: 0,
+            length: 0,
+        },
+        ShowAnswer::NoRule => WgShown {
+            refusal: 0,
+            place: 0,
+            source: structs::FROM_NOTHING,
+            number: structs::NOTHING as usize,
+            offset: 0,
+            length: 0,
+        },
+        ShowAnswer::FromTable(slot) => WgShown {
+            refusal: 0,
+            place: 0,
+            source: structs::FROM_TABLE,
+            number: slot as usize,
+            offset: layout::SLOT_SIZE * (slot as usize),
+            length: layout::SLOT_SIZE,
+        },
+        ShowAnswer::FromPolicy(rule) => WgShown {
+            refusal: 0,
+            place: 0,
+            source: structs::FROM_POLICY,
+            number: rule as usize,
+            offset: layout::RULE_SIZE * (rule as usize),
+            length: layout::RULE_SIZE,
+        },
+    }
+}

@@ -1,0 +1,40 @@
+-- The keeper's calls as C sees them: the numbers of the answer, and the buffers after it. Assumes nothing.
+use mathlib.Core.Path.{_≡_}
+use mathlib.Core.List.{List}
+use Prim.Native.Nat.{ℕ}
+use lib.ListN.{length}
+use Rattle.model.specs.Ends.{missWrite}
+use Rattle.model.specs.Trace.{missOutcome}
+use Rattle.ternary.specs.Sizes.{keySize}
+use Rattle.slots.specs.Slots.{slots}
+use Rattle.messages.specs.Reports.{decodeReport}
+use Rattle.cover.specs.Answers.{numberBytes, outOf}
+use Rattle.checks.specs.Refusals.{unlessRefused}
+use Rattle.keeper.specs.Reports.{reportRefused, reportAnswer, reportBytes}
+use Rattle.keeper.specs.Opens.{openIn, openRefusal, answerOf as openOf}
+use Rattle.verdict.specs.Decisions.{deciding, missIn}
+use Rattle.miss.specs.Answers.{missRefused, missBytes, outWith, answerOf as missAnswerOf}
+use Rattle.miss.specs.declared.MissAnswer.{MissAnswer}
+use Rattle.answers.specs.Keeper.{outcomeNumbers, reportedNumbers, openedNumbers}
+use Rattle.answers.specs.declared.structs.WgCount.{WgCount}
+use Rattle.answers.specs.declared.structs.WgDone.{WgDone}
+use Rattle.answers.specs.declared.structs.WgOutcome.{WgOutcome}
+
+-- the refusal, or the model's outcome
+abbrev pub missAnswer : List ℕ → List ℕ → List ℕ → ℕ → MissAnswer
+missAnswer policy key keeper room =
+    missAnswerOf (missRefused policy key keeper room) (missOutcome (deciding policy) (slots keySize keeper) (missIn policy key keeper))
+
+pub record MissCall (policy key keeper out : List ℕ) (r : WgOutcome) (keeper′ out′ : List ℕ) : Type 0 where
+  pub numbers : r ≡ outcomeNumbers (missAnswer policy key keeper (length out))
+  pub bytes : keeper′ ≡ unlessRefused (missRefused policy key keeper (length out)) keeper (missBytes keeper (missIn policy key keeper))
+  pub given : out′ ≡ unlessRefused (missRefused policy key keeper (length out)) out
+      (outWith (missWrite (slots keySize keeper) (missIn policy key keeper)) out)
+
+pub record ReportCall (keeper m : List ℕ) (r : WgDone) (keeper′ : List ℕ) : Type 0 where
+  pub numbers : r ≡ reportedNumbers (reportAnswer keeper m)
+  pub bytes : keeper′ ≡ unlessRefused (reportRefused keeper m) keeper (reportBytes keeper (decodeReport m))
+
+pub record OpenCall (keeper out : List ℕ) (r : WgCount) (out′ : List ℕ) : Type 0 where
+  pub numbers : r ≡ openedNumbers (openOf (openRefusal keeper (length out)) (length (openIn keeper)))
+  pub written : out′ ≡ outOf (openRefusal keeper (length out)) (numberBytes (openIn keeper)) out

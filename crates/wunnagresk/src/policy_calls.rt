@@ -1,0 +1,89 @@
+// The calls about a policy for C.
+use answers::structs::WgBestAnswer;
+use answers::structs::WgCount;
+use answers::structs::WgIsolated;
+use answers::structs::WgPart;
+use answers::structs::WgShown;
+use checks::refusal;
+use checks::refusal::Refusal;
+use records::layout;
+ghost use mathlib.Core.Path.{_≡_};
+ghost use Rattle.policy.specs.Answers.{checkAnswer, bestAnswer, recordAnswer};
+ghost use Rattle.decision.specs.Answers.{showAnswer};
+ghost use Rattle.answers.specs.Policy.{checkedNumbers, bestNumbers, recordNumbers, shownNumbers};
+ghost use Rattle.wunnagresk.specs.PolicyCalls.{CoverCall, IsolateCall};
+
+// Checks a policy, and counts its rules.
+#[no_mangle]
+pub extern "C" fn wg_check(policy: &[u8]) -> WgCount
+    ensures { λ r. ⌜ r ≡ checkedNumbers (checkAnswer (now (policy .entry))) ⌝ }
+{
+    answers::policy_answers::checked_numbers(policy::check(policy))
+}
+
+// The best rule of a key.
+#[no_mangle]
+pub extern "C" fn wg_best(policy: &[u8], key: &[u8]) -> WgBestAnswer
+    ensures { λ r. ⌜ r ≡ bestNumbers (bestAnswer (now (policy .entry)) (now (key .entry))) ⌝ }
+{
+    answers::policy_answers::best_numbers(policy::best(policy, key))
+}
+
+// Where the record of that number lies in the policy.
+#[no_mangle]
+pub extern "C" fn wg_rule(policy: &[u8], number: usize) -> WgPart
+    ensures { λ r. ⌜ r ≡ recordNumbers (recordAnswer (now (policy .entry)) number) number ⌝ }
+{
+    match policy::record_answer(policy, number) {
+        policy::RecordAnswer::Refused(refusal) => WgPart {
+            refusal: refusal.number,
+            place: refusal.place,
+            offset: 0,
+            length: 0,
+        },
+        policy::RecordAnswer::Shown => WgPart {
+            refusal: 0,
+            place: 0,
+            offset: layout::RULE_SIZE * number,
+            length: layout::RULE_SIZE,
+        },
+    }
+}
+
+// Writes the cover list of a rule to the start of `out`, two bytes a number.
+#[no_mangle]
+pub extern "C" fn wg_cover(policy: &[u8], number: usize, out: &mut [u8]) -> WgCount
+    ensures { λ r. ⌜ CoverCall (now (policy .entry)) number (now (out .entry)) r (now (out .exit)) ⌝ }
+{
+    answers::policy_answers::covered_numbers(cover::cover(policy, number, out))
+}
+
+// Isolates the key's best rule, and writes its pattern to the start of `out`, value then mask.
+#[no_mangle]
+pub extern "C" fn wg_isolate(policy: &[u8], key: &[u8], number: usize, out: &mut [u8]) -> WgIsolated
+    ensures { λ r. ⌜ IsolateCall (now (policy .entry)) (now (key .entry)) number (now (out .entry)) r (now (out .exit)) ⌝ }
+{
+    let answer = isolate::isolate(policy, key, number);
+    let said = answer.said;
+    let value = answer.value;
+    let mask = answer.mask;
+    if let isolate::Said::Refused(refusal) = said {
+        return answers::isolate_answers::refused_numbers(refusal);
+    }
+    if out.len() < answers::isolate_answers::PATTERN_SIZE {
+        return answers::isolate_answers::refused_numbers(Refusal {
+            number: refusal::SHORT_OUTPUT,
+            place: 0,
+        });
+    }
+    answers::isolate_answers::put_pattern(out, value, mask);
+    answers::isolate_answers::isolated_numbers(answer.fixed, answer.wildcards)
+}
+
+// Which record decides for a key, and where it lies.
+#[no_mangle]
+pub extern "C" fn wg_show(policy: &[u8], key: &[u8], table: &[u8]) -> WgShown
+    ensures { λ r. ⌜ r ≡ shownNumbers (showAnswer (now (policy .entry)) (now (key .entry)) (now (table .entry))) ⌝ }
+{
+    answers::policy_answers::shown_numbers(decision::show_answer(policy, key, table))
+}
