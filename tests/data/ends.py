@@ -4,7 +4,7 @@ An end is a list of Slot. Each call takes bytes and gives Answer: what it says, 
 """
 from collections import namedtuple
 
-from rules import KEY, Refused, best, isolate, matches, read_policy
+from rules import KEY, Refused, best, isolate, matches, read_policy, rule_bytes
 
 Slot = namedtuple('Slot', 'sequence hits value mask action rule settled spare')
 Write = namedtuple('Write', 'kind zero slot sequence value mask action rule spare')
@@ -175,6 +175,20 @@ def call_open(policy, given, keeper, room):
     listed = [i for i, s in enumerate(slots) if s.sequence != 0 and s.settled != 1]
     refuse_if(room < 2 * len(listed), 5)
     return Answer(f'open {len(listed)}', keeper, b''.join(i.to_bytes(2, 'big') for i in listed))
+
+
+def call_show(policy, key, table, room):
+    """The record that is shown stands where other calls have their output."""
+    rules = accepted_policy(policy)
+    k = accepted_key(key)
+    slots = accepted_end(table)
+    i = first_holding(slots, k)
+    if i is not None:
+        return Answer(f'from table {i}', table, encode(slots[i]))
+    rule = best(rules, k)
+    if rule is None:
+        return Answer('no rule', table, b'')
+    return Answer(f'from policy {rule}', table, rule_bytes(rules[rule]))
 
 
 def answer(call, policy, given, state, room):

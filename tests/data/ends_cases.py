@@ -6,11 +6,11 @@ and of the table or keeper, the output's length; then the label. Every question 
 parts are what this reading says of the earlier.
 """
 from ends import EMPTY, IS_REPORT, IS_WRITE, LARGEST, MOST_SLOTS, NOTHING, Report, Slot, Write, answer
-from ends import call_lookup, call_miss, call_open, call_report, call_write, encode, end_bytes, size
+from ends import call_lookup, call_miss, call_open, call_report, call_show, call_write, encode, end_bytes, size
 from policies import SMALL, V4, key, row, top
 from rules import policy_bytes, rule_bytes
 
-CALLS = [call_lookup, call_write, call_miss, call_report, call_open]
+CALLS = [call_lookup, call_write, call_miss, call_report, call_open, call_show]
 
 POLICY = policy_bytes(SMALL)
 # a rule that begins with a zero byte and whose last spare byte is not zero
@@ -66,6 +66,9 @@ class Cases:
     def open(self, label, keeper, room=ROOM):
         return self.ask(label, call_open, state=end_bytes(keeper), room=room)
 
+    def show(self, label, text, table, policy=POLICY):
+        return self.ask(label, call_show, policy=policy, given=key(text), state=end_bytes(table))
+
 
 def slot(sequence, text, hits=0, action=9, rule=2, settled=0, spare=0):
     """A slot whose pattern's first positions are shown; an x is a value bit under a wildcard."""
@@ -92,6 +95,7 @@ def printed_run(cases):
     told = []
     for n, text in enumerate(['1000', '0000', '1010', '1001', '1111', '0100']):
         name = f'run.{n}.{text}'
+        cases.ask(f'{name}.show', call_show, policy=POLICY, given=key(text), state=table)
         hit = cases.ask(f'{name}.lookup', call_lookup, given=key(text), state=table)
         table, message = hit.state, hit.output
         told.append(hit.said)
@@ -262,6 +266,22 @@ def opens(cases):
     cases.open('open.cleared.256', [EMPTY] * MOST_SLOTS, room=0)
 
 
+def shows(cases):
+    two = [slot(5, '1***', hits=3, action=8, rule=1), slot(4, '1111', hits=9)]
+    cases.show('show.lowest', '1111', two)
+    cases.show('show.rule', '0000', two)
+    cases.show('show.rule.0', '1111', [EMPTY] * 2)
+    cases.show('show.rule.1', '1010', [slot(0, '1010')])
+    cases.show('show.none', '0000', [EMPTY], policy=policy_bytes(SMALL[:1]))
+    cases.show('show.none.hit', '0000', [slot(1, '0***')], policy=policy_bytes(SMALL[:1]))
+    cases.show('show.empty.policy', '0000', [EMPTY], policy=b'')
+    cases.show('show.empty.policy.hit', '0000', [EMPTY, slot(1, '')], policy=b'')
+    cases.show('show.odd', '1010', [EMPTY, slot(1, '10xx', hits=LARGEST, action=NOTHING, rule=NOTHING, settled=2, spare=3)])
+    cases.show('show.full.0', '0' * 9, FULL)
+    cases.show('show.full.255', '0' + '1' * 8, FULL)
+    cases.show('show.1024.rules', '1010', [EMPTY], policy=(FILLER + POLICY)[len(FLAWED):])
+
+
 # ---- refusals: each alone, and the first of every two
 
 def with_bytes(at, *values):
@@ -324,7 +344,8 @@ REFUSALS = [
     ('report', call_report, dict(given=encode(report(1, 3, 7)), state=TWO, room=0),
      END_FAULTS + MESSAGE_FAULTS + [('11', with_bytes(4, 0, 0, 0, 4))],
      [('1.long', long_message), ('1.none', no_message), ('8.write', with_bytes(0, IS_WRITE)), ('9.next', with_bytes(2, 0, 2))]),
-    ('open', call_open, dict(state=TWO, room=4), END_FAULTS + [('5', less_room)], [])]
+    ('open', call_open, dict(state=TWO, room=4), END_FAULTS + [('5', less_room)], []),
+    ('show', call_show, dict(policy=POLICY, given=key('1111'), state=TWO, room=0), POLICY_FAULTS + END_FAULTS, OTHER_KEYS)]
 LENGTHS = [('none', 0), ('39', 39), ('41', 41), ('79', 79), ('10241', 40 * MOST_SLOTS + 1)]
 
 
@@ -355,7 +376,7 @@ def refusals(cases):
 def make():
     """The files of the test program, by their paths in the repository."""
     cases = Cases()
-    for ask in (refusals, printed_run, two_writes, lookups, writes, misses, reports, opens):
+    for ask in (refusals, printed_run, two_writes, lookups, writes, misses, reports, opens, shows):
         ask(cases)
     return {'crates/ends_test/data/buffers.bin': cases.buffers, 'crates/ends_test/data/cases.bin': cases.cases,
             'crates/ends_test/stdout': cases.text.encode()}

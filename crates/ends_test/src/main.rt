@@ -89,6 +89,14 @@ fn say_refused(r: Refusal) {
     say_word(b" ", r.place);
 }
 
+// What a call gives, unless it is nothing.
+fn say_given(s: &[u8]) {
+    if s.len() > 0 {
+        say(b" gives ");
+        say_hex(s);
+    }
+}
+
 // Each of the following makes a call, says its answer, and gives how many bytes of the output are the answer.
 
 fn ask_lookup(key: &[u8], table: &mut [u8], out: &mut [u8]) -> usize {
@@ -170,6 +178,18 @@ fn ask_open(keeper: &[u8], out: &mut [u8]) -> usize {
     }
 }
 
+// The record that decides, with the answer beside it: it is a part of the table or of the policy, and the output stays as it was.
+fn ask_show<'a>(policy: &'a [u8], key: &[u8], table: &'a [u8]) -> usize {
+    match decision::show_answer(policy, key, table) {
+        decision::ShowAnswer::Refused(r) => say_refused(r),
+        decision::ShowAnswer::NoRule => say(b" no rule"),
+        decision::ShowAnswer::FromTable(i) => say_word(b" from table ", wide16(i)),
+        decision::ShowAnswer::FromPolicy(i) => say_word(b" from policy ", wide16(i)),
+    }
+    say_given(decision::show(policy, key, table));
+    0
+}
+
 // The bytes of n numbers; 0 where they are more than an end has slots.
 fn twice(n: usize) -> usize {
     if n > MANY_SLOTS {
@@ -186,6 +206,7 @@ fn call(what: u8, policy: &[u8], given: &[u8], state: &mut [u8], out: &mut [u8])
         3 => ask_miss(policy, given, state, out),
         4 => ask_report(state, given),
         5 => ask_open(state, out),
+        6 => ask_show(policy, given, state),
         _ => 0,
     }
 }
@@ -219,14 +240,6 @@ fn say_slot(i: usize, old: &[u8], new: &[u8]) {
         say_word(b" slot ", i);
         say(b" ");
         say_hex(new);
-    }
-}
-
-// What a call gives, unless it is nothing.
-fn say_given(s: &[u8]) {
-    if s.len() > 0 {
-        say(b" gives ");
-        say_hex(s);
     }
 }
 
