@@ -8,7 +8,7 @@ use Rattle.model.specs.Bits.{Bytes}
 use Rattle.model.specs.Records.{Write}
 use Rattle.buffers.specs.Numbers.{be, toBe}
 use Rattle.buffers.proofs.NumberLaws.{be-toBe}
-use Rattle.buffers.proofs.FieldLaws.{part-past, value-there, mask-there, after-rows, part-then, number-then, pair-then, pair-last}
+use Rattle.buffers.proofs.FieldLaws.{drop-past, part-past, byte-past, value-there, mask-there, after-rows, part-then, number-then, pair-then, pair-last}
 use Rattle.records.specs.Layout.{writeKind, writeZero, writeSlot, writeSequence, writeValue, writeMask, writeAction, writeRule}
 use Rattle.records.specs.Layout.{writeSpare, writeSize, isWrite}
 use Rattle.messages.specs.Writes.{decodeWrite, encodeWrite, WriteFits}
@@ -39,6 +39,17 @@ module _ (w : ℕ) (x : Write) (f : WriteFits w x) where
       (mask-there w writeValue bytes (x .value) (x .mask) numbers refl (f .value-long) (f .mask-long))
       (ap (λ (s : List ℕ). be (take 2 s)) after ∙ be-toBe 2 (x .action) (f .action-fits))
       (ap be (part-past bytes (writeAction w) after 2 2) ∙ be-toBe 2 (x .rule) (f .rule-fits))
+
+  after-action : drop (writeRule w) bytes ≡ drop 2 numbers
+  after-action = drop-past bytes (writeAction w) after 2
+
+  after-rule : drop (writeSpare w) bytes ≡ 0 ∷ 0 ∷ []
+  after-rule = drop-past bytes (writeRule w) after-action 2
+
+  -- its last two bytes are zero
+  pub spares-encode-write : (getD (encodeWrite x) (writeSpare w) 0 ≡ 0) × (getD (encodeWrite x) (writeSpare w + 1) 0 ≡ 0)
+  unfolding encodeWrite
+  spares-encode-write = (byte-past bytes (writeRule w) after-action 2, byte-past bytes (writeSpare w) after-rule 1)
 
 pub length-encode-write : (w : ℕ) (x : Write) → WriteFits w x → length (encodeWrite x) ≡ writeSize w
 unfolding encodeWrite

@@ -40,7 +40,7 @@ pub fn write_of(t: &[u8]) -> Write
 }
 
 // The bytes of a write.
-fn write_bytes(x: Write) -> [u8; layout::WRITE_SIZE]
+pub fn write_bytes(x: Write) -> [u8; layout::WRITE_SIZE]
     ensures { λ r. ⌜ r ≡ encodeWrite (asWrite x) ⌝ }
 {
     let value = x.value;

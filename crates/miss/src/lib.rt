@@ -49,7 +49,7 @@ fn check_parts(policy: &[u8], key: &[u8], keeper: &[u8]) -> Parts
 }
 
 // Puts the write's entry into its slot, unless the outcome is that the write is given again.
-fn place_entry(keeper: &mut [u8], outcome: u8, x: Write)
+pub fn place_entry(keeper: &mut [u8], outcome: u8, x: Write)
     requires { ⌜ (x .slot < slotCount keySize (now keeper)) × (givesWrite outcome ≡ true) ⌝ }
     ensures { λ _. ⌜ EntryPlaced outcome (asWrite x) (now (keeper .entry)) (now (keeper .exit)) ⌝ }
 {

@@ -1,9 +1,11 @@
-// The outcomes of a miss.
+// The outcomes of a packet; all but the hit are of a miss.
 ghost use mathlib.Core.Path.{_≡_};
 ghost use Rattle.verdict.specs.Decisions.{givesWrite};
 
 // No rule.
 pub const NO_RULE: u8 = 0;
+// Hit.
+pub const HIT: u8 = 1;
 // Written to an empty slot.
 pub const TO_EMPTY: u8 = 2;
 // Written over an entry.

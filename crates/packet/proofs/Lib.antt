@@ -1,0 +1,4 @@
+-- Laws of a packet's messages, each delivered at once.
+pub mod SentLaws
+pub mod MissLaws
+pub mod HitLaws

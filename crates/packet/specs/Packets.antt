@@ -1,0 +1,52 @@
+-- One packet of a run, over the buffers of the two ends. Assumes nothing.
+use mathlib.Core.Path.{_≡_}
+use mathlib.Core.List.{List}
+use Prim.Native.Nat.{ℕ}
+use Rattle.model.specs.Records.{Write, Outcome}
+use Rattle.model.specs.Ends.{writeRefusal, missKeeper, missWrite}
+use Rattle.model.specs.Trace.{Ends, writtenTo, sentTo, onePacket, missOutcome, oneOutcome}
+use Rattle.ternary.specs.Sizes.{keySize, positions}
+use Rattle.slots.specs.Slots.{slots}
+use Rattle.slots.specs.Refusals.{WholeSlots}
+use Rattle.verdict.specs.Decisions.{Fine, deciding, missIn}
+
+-- the two ends that the buffers hold
+abbrev pub endsIn : List ℕ → List ℕ → Ends
+endsIn table keeper = record { keeper = slots keySize keeper; table = slots keySize table }
+
+-- neither end's buffer is refused
+pub record WholeEnds (table keeper : List ℕ) : Type 0 where
+  pub table-whole : WholeSlots table
+  pub keeper-whole : WholeSlots keeper
+
+-- no part of a packet is refused
+pub record FinePacket (policy key table keeper : List ℕ) : Type 0 where
+  pub fine : Fine policy key keeper
+  pub table-whole : WholeSlots table
+
+-- what became of a packet: its outcome, and what the two ends then hold
+pub record Became (o : Outcome) (e : Ends) (x : Outcome) (table′ keeper′ : List ℕ) : Type 0 where
+  pub outcome : x ≡ o
+  pub ends : endsIn table′ keeper′ ≡ e
+
+-- a write goes to the table, and its report to the keeper
+abbrev pub sentEnds : List ℕ → List ℕ → Write → Ends
+sentEnds table keeper x =
+    writtenTo (slots keySize keeper) (slots keySize table) x (writeRefusal positions (slots keySize table) x)
+
+-- a miss goes to the keeper, and its write to the table
+abbrev pub missedOutcome : List ℕ → List ℕ → List ℕ → Outcome
+missedOutcome policy key keeper = missOutcome (deciding policy) (slots keySize keeper) (missIn policy key keeper)
+
+abbrev pub missedEnds : List ℕ → List ℕ → List ℕ → List ℕ → Ends
+missedEnds policy key table keeper =
+    let k = slots keySize keeper in
+    let m = missIn policy key keeper in
+    sentTo positions (missKeeper k m) (slots keySize table) (missWrite k m)
+
+-- the packet
+abbrev pub packetOutcome : List ℕ → List ℕ → List ℕ → List ℕ → Outcome
+packetOutcome policy key table keeper = oneOutcome positions (deciding policy) (endsIn table keeper) key
+
+abbrev pub packetEnds : List ℕ → List ℕ → List ℕ → List ℕ → Ends
+packetEnds policy key table keeper = onePacket positions (deciding policy) (endsIn table keeper) key

@@ -1,0 +1,67 @@
+// One packet of a run: each message is delivered at once.
+use messages::write::Write;
+use outcomes::Outcome;
+use records::layout;
+ghost use mathlib.Core.Path.{_≡_};
+ghost use Rattle.messages.specs.Structs.{asWrite};
+ghost use Rattle.outcomes.specs.Outcomes.{asOutcome};
+ghost use Rattle.packet.specs.Packets.{endsIn, WholeEnds, FinePacket, Became, sentEnds};
+ghost use Rattle.packet.specs.Packets.{missedOutcome, missedEnds, packetOutcome, packetEnds};
+
+// A write goes to the table, and its report to the keeper. What an end refuses changes nothing there.
+fn send(w: Write, table: &mut [u8], keeper: &mut [u8])
+    requires { ⌜ WholeEnds (now table) (now keeper) ⌝ }
+    ensures { λ _. ⌜ endsIn (now (table .exit)) (now (keeper .exit)) ≡ sentEnds (now (table .entry)) (now (keeper .entry)) (asWrite w) ⌝ }
+{
+    let message = messages::write::write_bytes(w);
+    let mut report = [0; layout::REPORT_SIZE];
+    if let received::write::WriteAnswer::Taken = received::write::write(
+        table,
+        &message,
+        &mut report,
+    ) {
+        keeper::report(keeper, &report);
+    }
+}
+
+// A miss goes to the keeper, and the write, where one is given, to the table.
+fn missed(policy: &[u8], key: &[u8], table: &mut [u8], keeper: &mut [u8]) -> Outcome
+    requires { ⌜ FinePacket (now policy) (now key) (now table) (now keeper) ⌝ }
+    ensures { λ r. ⌜ Became (missedOutcome (now (policy .entry)) (now (key .entry)) (now (keeper .entry)))
+        (missedEnds (now (policy .entry)) (now (key .entry)) (now (table .entry)) (now (keeper .entry)))
+        (asOutcome r) (now (table .exit)) (now (keeper .exit)) ⌝ }
+{
+    let d = verdict::decide(policy, key, keeper);
+    let outcome = d.outcome;
+    let write = d.write;
+    if verdict::kinds::gives_write(outcome.outcome) {
+        miss::place_entry(keeper, outcome.outcome, write);
+        send(write, table, keeper);
+    }
+    outcome
+}
+
+// One packet: the table looks the key up; a hit's report goes to the keeper, and so does a miss. What an end refuses changes nothing there.
+pub fn one_packet(policy: &[u8], key: &[u8], table: &mut [u8], keeper: &mut [u8]) -> Outcome
+    requires { ⌜ FinePacket (now policy) (now key) (now table) (now keeper) ⌝ }
+    ensures { λ r. ⌜ Became (packetOutcome (now (policy .entry)) (now (key .entry)) (now (table .entry)) (now (keeper .entry)))
+        (packetEnds (now (policy .entry)) (now (key .entry)) (now (table .entry)) (now (keeper .entry)))
+        (asOutcome r) (now (table .exit)) (now (keeper .exit)) ⌝ }
+{
+    let mut report = [0; layout::REPORT_SIZE];
+    if let table::lookup::LookupAnswer::Hit(slot, rule, action) = table::lookup::lookup(
+        key,
+        table,
+        &mut report,
+    ) {
+        keeper::report(keeper, &report);
+        return Outcome {
+            outcome: verdict::kinds::HIT,
+            action,
+            rule,
+            slot,
+            evicted: verdict::kinds::NOTHING,
+        };
+    }
+    missed(policy, key, table, keeper)
+}

@@ -1,0 +1,2 @@
+-- The totals that runs advance.
+pub mod Sums
