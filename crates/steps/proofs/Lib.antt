@@ -1,0 +1,2 @@
+-- Laws of a run's packets.
+pub mod StepLaws

@@ -1,0 +1,2 @@
+-- The packets of a run, one after another.
+pub mod Steps
