@@ -7,25 +7,23 @@ use native.Mathlib.Omega.{arith}
 use lib.ListN.{length}
 use lib.Seq.{getD-set-same}
 use Rattle.model.specs.Bits.{Bytes}
-use Rattle.model.specs.Records.{Slot, Outcome, Report, reportFor, slotAt, cleared}
-use Rattle.model.specs.Ends.{counted, firstFor, hitAt, countedAt, lookup, afterLookup, reportRefusal}
-use Rattle.model.specs.Trace.{Ends, nothing, onePacket, oneOutcome}
+use Rattle.model.specs.Records.{Slot, Outcome, reportFor, slotAt, cleared}
+use Rattle.model.specs.Ends.{counted, firstFor, hitAt, countedAt, lookup, afterLookup}
+use Rattle.model.specs.Trace.{nothing, onePacket, oneOutcome}
 use Rattle.model.proofs.Slots.{found}
 use Rattle.ternary.specs.Sizes.{keySize, positions}
 use Rattle.buffers.proofs.PartLaws.{splice-all}
 use Rattle.records.specs.Layout.{reportSize}
 use Rattle.slots.specs.Slots.{slotCount, slots}
-use Rattle.slots.specs.Refusals.{WholeSlots}
 use Rattle.slots.proofs.SlotLaws.{slot-count}
 use Rattle.messages.specs.Reports.{encodeReport, ReportFits}
-use Rattle.table.specs.Lookups.{lookupRefusal, answerOf, toldOf, LookedUp}
+use Rattle.table.specs.Lookups.{lookupRefusal, answerOf, LookedUp}
 use Rattle.table.specs.declared.lookup.LookupAnswer.{LookupAnswer}
-use Rattle.table.specs.declared.lookup.LookupAnswer.the-variants.{Refused, Miss, Hit}
+use Rattle.table.specs.declared.lookup.LookupAnswer.the-variants.{Hit}
 use Rattle.received.proofs.ModelLaws.{good-lookup, looked-up}
 use Rattle.keeper.specs.Reports.{Reported}
 use Rattle.keeper.specs.declared.ReportAnswer.{ReportAnswer}
-use Rattle.verdict.specs.Decisions.{deciding}
-use Rattle.packet.specs.Packets.{endsIn, FinePacket, Became, missedOutcome, missedEnds, packetOutcome, packetEnds}
+use Rattle.packet.specs.Packets.{FinePacket, Became, missedOutcome, missedEnds, packetOutcome, packetEnds}
 use Rattle.packet.proofs.SentLaws.{same-ends, as-whole, report-fits, reported-to}
 
 module _ {policy key table keeper out table′ out′ : List ℕ} {r : LookupAnswer}

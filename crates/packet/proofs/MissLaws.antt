@@ -7,9 +7,9 @@ use Prim.Native.Nat.{ℕ}
 use lib.ListN.{set}
 use Rattle.model.specs.Records.{Slot, Write, Outcome, Entry, slotAt, entryIn, written}
 use Rattle.model.specs.Ends.{Miss, noRule, again, place, usedUp, isEmpty, missKeeper, missWrite}
-use Rattle.model.specs.Trace.{missOutcome, sentTo}
+use Rattle.model.specs.Trace.{missOutcome}
 use Rattle.model.proofs.Cases.{by-cases, clash}
-use Rattle.ternary.specs.Sizes.{keySize, positions}
+use Rattle.ternary.specs.Sizes.{keySize}
 use Rattle.slots.specs.Slots.{slots}
 use Rattle.messages.specs.Structs.{asWrite}
 use Rattle.outcomes.specs.Outcomes.{asOutcome}

@@ -22,7 +22,7 @@ use Rattle.messages.specs.Writes.{decodeWrite, encodeWrite, WriteFits}
 use Rattle.messages.specs.Reports.{decodeReport, encodeReport, ReportFits}
 use Rattle.messages.proofs.WriteLaws.{decode-encode-write, length-encode-write, spares-encode-write}
 use Rattle.messages.proofs.ReportLaws.{decode-encode-report}
-use Rattle.received.specs.Writes.{writeCallRefusal, takenOf, Received, slotsAfterWrite}
+use Rattle.received.specs.Writes.{writeCallRefusal, Received, slotsAfterWrite}
 use Rattle.received.specs.declared.write.WriteAnswer.{WriteAnswer}
 use Rattle.received.specs.declared.write.WriteAnswer.the-variants.{Refused, Taken}
 use Rattle.received.proofs.WriteLaws.{good-call, taken-refused, taken-passed}

@@ -5,7 +5,7 @@ use Prim.Native.Nat.{ℕ, suc, _+_, _*_, _≤_, _<_}
 use native.Mathlib.Nat.{add-zero}
 use native.Mathlib.Numerals.{add-one}
 use native.Mathlib.Omega.{arith}
-use lib.ListN.{length, take, drop, getD, length-append, length-take}
+use lib.ListN.{length, take, length-append, length-take}
 use lib.Seq.{take-suc, take-all}
 use Rattle.model.specs.Records.{Outcome, Totals}
 use Rattle.model.specs.Ends.{Key, Decisions}
@@ -21,7 +21,7 @@ use Rattle.records.proofs.TraceLaws.{packet-count, key-at}
 use Rattle.outcomes.specs.Outcomes.{encodeOutcome}
 use Rattle.totals.specs.Sums.{mostTotal, AtMost}
 use Rattle.totals.proofs.SumLaws.{after-most}
-use Rattle.verdict.specs.Decisions.{deciding, Fine}
+use Rattle.verdict.specs.Decisions.{deciding}
 use Rattle.packet.specs.Packets.{endsIn, FinePacket, Became, packetOutcome, packetEnds}
 use Rattle.packet.proofs.SentLaws.{as-whole}
 use Rattle.steps.specs.Steps.{RunFits, Stepped, toldBy, endsAfter, RanOver}
@@ -52,7 +52,7 @@ module _ {policy bs table keeper out key : List ℕ} {i : ℕ}
 
 -- ---- the bytes of outcomes in a row
 
-spelled-append : (os qs : List Outcome) → spelled encodeOutcome (os ++ qs) ≡ spelled encodeOutcome os ++ spelled encodeOutcome qs
+pub spelled-append : (os qs : List Outcome) → spelled encodeOutcome (os ++ qs) ≡ spelled encodeOutcome os ++ spelled encodeOutcome qs
 unfolding spelled
 spelled-append [] qs = refl
 spelled-append (o ∷ os) qs =

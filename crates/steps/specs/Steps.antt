@@ -5,7 +5,7 @@ use Prim.Native.Nat.{ℕ, _*_, _≤_}
 use lib.ListN.{length}
 use Rattle.model.specs.Records.{Outcome, Totals}
 use Rattle.model.specs.Ends.{Key}
-use Rattle.model.specs.Trace.{Ends, onePacket, trace, oneOutcome, outcomes}
+use Rattle.model.specs.Trace.{Ends, trace, outcomes}
 use Rattle.model.specs.Totals.{totalsAfter}
 use Rattle.ternary.specs.Sizes.{keySize, positions}
 use Rattle.buffers.specs.Parts.{splice, spelled}

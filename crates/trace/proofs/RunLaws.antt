@@ -7,7 +7,7 @@ use Prim.Native.Nat.{ℕ, _*_, _%_, _≤_}
 use native.Mathlib.Omega.{arith}
 use lib.Dec.{leb, ltb, eqb}
 use lib.ListN.{length}
-use borrow.Author.Tests.{leb-true, ltb-false}
+use borrow.Author.Tests.{eqb-true, leb-true, ltb-false}
 use Rattle.model.specs.Bits.{Bytes}
 use Rattle.model.specs.Records.{Totals}
 use Rattle.model.specs.Trace.{Ends}
@@ -27,7 +27,6 @@ use Rattle.policy.proofs.CheckLaws.{passed-few}
 use Rattle.totals.specs.declared.Totals.{Totals as TotalsStruct}
 use Rattle.totals.specs.Sums.{asTotals, mostTotal, totalsFit, AtMost}
 use Rattle.totals.proofs.SumLaws.{fit-most}
-use Rattle.packet.specs.Packets.{endsIn}
 use Rattle.packet.proofs.SentLaws.{as-whole}
 use Rattle.steps.specs.Steps.{RunFits, RanOver}
 use Rattle.trace.specs.Refusals.{traceRefusal, endsRefusal, runRefusal, partsOf}
@@ -73,6 +72,13 @@ module _ (policy trace table keeper out : List ℕ) (t : Totals) (fine : runRefu
   ends =
       let a = none-first (slotsRefusal table) _ (parts .2) in
       (slots-accepted table .0 (a .0), slots-accepted keeper .0 (none-first (slotsRefusal keeper) _ (a .1) .0))
+
+  -- the trace is whole records
+  pub run-whole : length trace ≡ traceSize keySize * packetCount keySize trace
+  unfolding traceRefusal
+  run-whole =
+      let e = eqb-true (length trace % traceSize keySize) 0 (need-none (eqb (length trace % traceSize keySize) 0) _ _ (parts .1) .0) in
+      omega (arith, e)
 
   pub run-fits : RunFits policy trace table keeper out × AtMost mostTotal t
   run-fits = (

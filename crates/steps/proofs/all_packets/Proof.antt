@@ -1,7 +1,6 @@
 -- `steps::all_packets` meets its contract: the first i packets were run. Assumes nothing.
 use borrow.Author.Needs.{needs}
 use Prim.Native.Nat.{_-_}
-use native.Mathlib.Omega.{arith}
 use Rattle.totals.specs.Sums.{asTotals}
 use Rattle.steps.proofs.StepLaws.{SoFar, far-none, far-ready, far-more, far-all}
 use Rattle.steps.proofs.all_packets.Statement.{statement}

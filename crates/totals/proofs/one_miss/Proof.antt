@@ -1,5 +1,4 @@
 -- `totals::one_miss` meets its contract: outcomes 2 to 5. Assumes nothing.
-use borrow.Author.Needs.{needs}
 use native.Mathlib.Omega.{arith}
 use borrow.Author.Tests.{le-leb, lt-leb}
 use Rattle.totals.proofs.one_miss.Statement.{statement}

@@ -1,5 +1,4 @@
 -- `totals::one_of` meets its contract: 1 where the two are equal. Assumes nothing.
-use borrow.Author.Needs.{needs}
 use native.Mathlib.Omega.{arith}
 use borrow.Author.Tests.{eq-eqb, ne-eqb}
 use Rattle.totals.proofs.one_of.Statement.{statement}

@@ -1,5 +1,4 @@
 -- `totals::totals_fit` meets its contract: each total against the limit. Assumes nothing.
-use borrow.Author.Needs.{needs}
 use borrow.Author.Tests.{le-leb, lt-leb}
 use Rattle.totals.specs.Sums.{totalsFit}
 use Rattle.totals.proofs.totals_fit.Statement.{statement}

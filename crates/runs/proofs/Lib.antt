@@ -1,0 +1,4 @@
+-- Runs one after another.
+pub mod RowLaws
+pub mod Accepted
+pub mod Promise
