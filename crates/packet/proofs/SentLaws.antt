@@ -13,6 +13,7 @@ use Rattle.model.proofs.Cases.{none-some}
 use Rattle.ternary.specs.Sizes.{keySize, positions}
 use Rattle.buffers.proofs.PartLaws.{splice-all}
 use Rattle.records.specs.Layout.{slotSize, reportSize}
+use Rattle.checks.specs.Refusals.{unlessRefused}
 use Rattle.checks.specs.declared.refusal.Refusal.{Refusal}
 use Rattle.slots.specs.Slots.{slotCount, slots}
 use Rattle.slots.specs.Refusals.{WholeSlots}
@@ -27,7 +28,7 @@ use Rattle.received.specs.declared.write.WriteAnswer.{WriteAnswer}
 use Rattle.received.specs.declared.write.WriteAnswer.the-variants.{Refused, Taken}
 use Rattle.received.proofs.WriteLaws.{good-call, taken-refused, taken-passed}
 use Rattle.received.proofs.ModelLaws.{taken-here, taken-there, received}
-use Rattle.keeper.specs.Reports.{leftOf, numbered, reportRefused, Reported}
+use Rattle.keeper.specs.Reports.{numbered, reportRefused, Reported}
 use Rattle.keeper.specs.declared.ReportAnswer.{ReportAnswer}
 use Rattle.keeper.proofs.ReportLaws.{report-meaning}
 use Rattle.packet.specs.Packets.{endsIn, WholeEnds, sentEnds}
@@ -55,7 +56,7 @@ module _ (keeper : List ℕ) (x : Report) (whole : WholeSlots keeper) (f : Repor
   abbrev k : List Slot
   k = slots keySize keeper
 
-  left : (o : Option ℕ) → leftOf (numbered o) k (afterReport k x) ≡ reportedTo k x o
+  left : (o : Option ℕ) → unlessRefused (numbered o) k (afterReport k x) ≡ reportedTo k x o
   left none = refl
   left (some n) = refl
 
@@ -67,7 +68,7 @@ module _ (keeper : List ℕ) (x : Report) (whole : WholeSlots keeper) (f : Repor
   pub reported-to : {message keeper′ : List ℕ} {r : ReportAnswer} → message ≡ encodeReport x → Reported keeper message r keeper′
       → slots keySize keeper′ ≡ reportedTo k x (reportRefusal k x)
   reported-to {keeper′ = keeper′} e is =
-      let told : slots keySize keeper′ ≡ leftOf (reportRefused keeper (encodeReport x)) k (afterReport k (decodeReport (encodeReport x))) =
+      let told : slots keySize keeper′ ≡ unlessRefused (reportRefused keeper (encodeReport x)) k (afterReport k (decodeReport (encodeReport x))) =
       rw e at (is .meaning)
       in
       (rw (refused-as, decode-encode-report x f) at told) ∙ left (reportRefusal k x)
