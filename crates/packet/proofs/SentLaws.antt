@@ -89,8 +89,8 @@ module _ {table keeper m out table′ out′ : List ℕ} {r : WriteAnswer} {w : 
   unfolding encodeWrite
   here e =
       let z = spares-encode-write keySize w f in
-      taken-here table m (length out) (ends .table-whole) (rw spells (length-encode-write keySize w f)) (rw spells) (rw spells (refl, (z .0, (z .1, tt))))
-      (rw means e) (omega arith)
+      taken-here table m (length out) (ends .table-whole) (rw spells (length-encode-write keySize w f)) (rw spells)
+      (rw spells (refl, (z .0, (z .1, tt)))) (rw means e) (omega arith)
 
   kept : (o : Option ℕ) → writeRefusal positions t w ≡ o → {q : Refusal} → writeCallRefusal table m (length out) ≡ some q
       → writtenTo (slots keySize keeper) t w o ≡ endsIn table keeper

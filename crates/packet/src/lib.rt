@@ -14,13 +14,13 @@ fn send(w: Write, table: &mut [u8], keeper: &mut [u8])
     ensures { λ _. ⌜ endsIn (now (table .exit)) (now (keeper .exit)) ≡ sentEnds (now (table .entry)) (now (keeper .entry)) (asWrite w) ⌝ }
 {
     let message = messages::write::write_bytes(w);
-    let mut report = [0; layout::REPORT_SIZE];
+    let mut back = [0; layout::REPORT_SIZE];
     if let received::write::WriteAnswer::Taken = received::write::write(
         table,
         &message,
-        &mut report,
+        &mut back,
     ) {
-        keeper::report(keeper, &report);
+        keeper::report(keeper, &back);
     }
 }
 

@@ -39,7 +39,8 @@ abbrev pub endsAfter : List ℕ → List ℕ → List ℕ → List Key → Ends
 endsAfter policy table keeper ks = trace positions (deciding policy) (endsIn table keeper) ks
 
 -- these keys were run: the two ends, the outcomes' bytes at the start of the output, and the totals
-pub record RanOver (policy : List ℕ) (ks : List Key) (table keeper out : List ℕ) (t : Totals) (table′ keeper′ out′ : List ℕ) (t′ : Totals) : Type 0 where
+pub record RanOver (policy : List ℕ) (ks : List Key) (table keeper out : List ℕ) (t : Totals)
+    (table′ keeper′ out′ : List ℕ) (t′ : Totals) : Type 0 where
   pub ends : endsIn table′ keeper′ ≡ endsAfter policy table keeper ks
   pub told : out′ ≡ splice 0 (spelled encodeOutcome (toldBy policy table keeper ks)) out
   pub sums : t′ ≡ totalsAfter t (toldBy policy table keeper ks)

@@ -18,7 +18,7 @@ returns c =
     let w = s .before .before in
     let b = w .before .before .before .before in
     sent-taken (b .before .before .before .pre) (fits b) (b .write-bytes .ensures) (search needs) (w .write .ensures) (e .enum-told .given .1)
-    (search needs) (bytes-of _ (s .slice-known3 .given)) (c .before .before .report4 .ensures)
+    (search needs) (bytes-of _ (s .slice-known3 .given)) (c .before .before .report .ensures)
 
 returns-2 : tie.Need-returns-2
 returns-2 c =
