@@ -3,4 +3,3 @@ pub mod TableCalls
 pub mod KeeperCalls
 pub mod PolicyCalls
 pub mod Named
-pub mod RunCalls

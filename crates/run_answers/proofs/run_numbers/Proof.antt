@@ -1,7 +1,7 @@
--- `wunnagresk::run_calls::run_numbers` meets its contract: each case has its own numbers. Assumes nothing.
+-- `run_answers::run_numbers` meets its contract: each case has its own numbers. Assumes nothing.
 use borrow.Author.Needs.{needs}
-use Rattle.wunnagresk.proofs.run_calls.run_numbers.Statement.{statement}
-use Rattle.wunnagresk.proofs.run_calls.run_numbers.Tie as tie
+use Rattle.run_answers.proofs.run_numbers.Statement.{statement}
+use Rattle.run_answers.proofs.run_numbers.Tie as tie
 
 returns : tie.Need-returns
 returns c = rw (c .before .answer .given .1)

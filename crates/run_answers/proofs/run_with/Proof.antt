@@ -1,10 +1,10 @@
--- `wunnagresk::run_calls::run_with` meets its contract: the run's answer as numbers, its totals and buffers as they are. Assumes nothing.
+-- `run_answers::run_with` meets its contract: the run's answer as numbers, its totals and buffers as they are. Assumes nothing.
 use borrow.Author.Needs.{needs}
 use mathlib.Core.Path.{_≡_, ap, _∙_}
 use Rattle.answers.specs.declared.structs.WgCount.{WgCount}
-use Rattle.wunnagresk.specs.RunCalls.{RunSeen, seenOf}
-use Rattle.wunnagresk.proofs.run_calls.run_with.Statement.{statement}
-use Rattle.wunnagresk.proofs.run_calls.run_with.Tie as tie
+use Rattle.run_answers.specs.RunCalls.{RunSeen, seenOf}
+use Rattle.run_answers.proofs.run_with.Statement.{statement}
+use Rattle.run_answers.proofs.run_with.Tie as tie
 
 -- what is seen, with these numbers
 with-numbers : {s : RunSeen} {n : WgCount} → n ≡ s .numbers
