@@ -1,0 +1,2 @@
+-- One input admits one answer.
+pub mod Single

@@ -1,0 +1,69 @@
+-- One input admits one answer: for each call, two results that meet its contract for the same input are equal. Assumes nothing.
+use mathlib.Core.Path.{_≡_}
+use mathlib.Core.List.{List}
+use Prim.Native.Nat.{ℕ}
+use Rattle.cover.specs.Answers.{Covered}
+use Rattle.cover.specs.declared.CoverAnswer.{CoverAnswer}
+use Rattle.table.specs.Lookups.{LookedUp}
+use Rattle.table.specs.declared.lookup.LookupAnswer.{LookupAnswer}
+use Rattle.received.specs.Writes.{Received}
+use Rattle.received.specs.declared.write.WriteAnswer.{WriteAnswer}
+use Rattle.keeper.specs.Reports.{Reported}
+use Rattle.keeper.specs.Opens.{Opened}
+use Rattle.keeper.specs.declared.ReportAnswer.{ReportAnswer}
+use Rattle.keeper.specs.declared.OpenAnswer.{OpenAnswer}
+use Rattle.miss.specs.Answers.{Missed}
+use Rattle.miss.specs.declared.MissAnswer.{MissAnswer}
+use Rattle.model.specs.Records.{Totals}
+use Rattle.trace.specs.Runs.{RunIs, shows}
+use Rattle.trace.specs.declared.Ran.{Ran}
+use Rattle.answers.specs.declared.structs.WgCount.{WgCount}
+use Rattle.answers.specs.declared.structs.WgDone.{WgDone}
+use Rattle.answers.specs.declared.structs.WgFound.{WgFound}
+use Rattle.answers.specs.declared.structs.WgIsolated.{WgIsolated}
+use Rattle.answers.specs.declared.structs.WgOutcome.{WgOutcome}
+use Rattle.wunnagresk.specs.TableCalls.{LookupCall, WriteCall}
+use Rattle.wunnagresk.specs.KeeperCalls.{MissCall, ReportCall, OpenCall}
+use Rattle.wunnagresk.specs.PolicyCalls.{CoverCall, IsolateCall}
+
+-- a buffer's bytes
+abbrev pub Buffer : Type 0
+Buffer = List ℕ
+
+-- a contract whose results are one equation: what it says of the result x, where f is its definition and a the input
+abbrev pub Is : {A B : Type 0} → (A → B) → A → B → Type 0
+Is f a x = x ≡ f a
+
+-- two results that meet the contract for the same input are equal
+abbrev pub Single : {A B : Type 0} → (A → B → Type 0) → Type 0
+Single {A} {B} C = (a : A) (x y : B) → C a x → C a y → x ≡ y
+
+-- a contract that is one equation admits one answer: check, best rule, a rule's record and its companion, isolate, the shown part and its
+-- companion; wg_check, wg_best, wg_rule, wg_show and wg_run
+abbrev pub EquationLaw : Type 1
+EquationLaw = (A B : Type 0) (f : A → B) → Single (Is f)
+
+-- the calls that answer and leave buffers: input first, then the answer with the buffers after the call
+pub record EachSingle : Type 0 where
+  pub covers : Single (λ (a : Buffer × ℕ × Buffer) (x : CoverAnswer × Buffer). Covered (a .0) (a .1) (a .2) (x .0) (x .1))
+  pub lookups : Single (λ (a : Buffer × Buffer × Buffer) (x : LookupAnswer × Buffer × Buffer). LookedUp (a .0) (a .1) (a .2) (x .0) (x .1) (x .2))
+  pub writes : Single (λ (a : Buffer × Buffer × Buffer) (x : WriteAnswer × Buffer × Buffer). Received (a .0) (a .1) (a .2) (x .0) (x .1) (x .2))
+  pub misses : Single (λ (a : Buffer × Buffer × Buffer × Buffer) (x : MissAnswer × Buffer × Buffer).
+      Missed (a .0) (a .1) (a .2) (a .3) (x .0) (x .1) (x .2))
+  pub reports : Single (λ (a : Buffer × Buffer) (x : ReportAnswer × Buffer). Reported (a .0) (a .1) (x .0) (x .1))
+  pub opens : Single (λ (a : Buffer × Buffer) (x : OpenAnswer × Buffer). Opened (a .0) (a .1) (x .0) (x .1))
+  -- the answer, the totals and every byte of the three buffers are what `shows` gathers
+  pub runs : (policy trace table keeper out : Buffer) (t : Totals) (r r′ : Ran) (ta ke ou ta′ ke′ ou′ : Buffer)
+      → RunIs policy trace table keeper out t r ta ke ou → RunIs policy trace table keeper out t r′ ta′ ke′ ou′
+      → shows r ta ke ou ≡ shows r′ ta′ ke′ ou′
+
+-- the exports that leave buffers
+pub record EachExportSingle : Type 0 where
+  pub covers : Single (λ (a : Buffer × ℕ × Buffer) (x : WgCount × Buffer). CoverCall (a .0) (a .1) (a .2) (x .0) (x .1))
+  pub isolates : Single (λ (a : Buffer × Buffer × ℕ × Buffer) (x : WgIsolated × Buffer). IsolateCall (a .0) (a .1) (a .2) (a .3) (x .0) (x .1))
+  pub lookups : Single (λ (a : Buffer × Buffer × Buffer) (x : WgFound × Buffer × Buffer). LookupCall (a .0) (a .1) (a .2) (x .0) (x .1) (x .2))
+  pub writes : Single (λ (a : Buffer × Buffer × Buffer) (x : WgDone × Buffer × Buffer). WriteCall (a .0) (a .1) (a .2) (x .0) (x .1) (x .2))
+  pub misses : Single (λ (a : Buffer × Buffer × Buffer × Buffer) (x : WgOutcome × Buffer × Buffer).
+      MissCall (a .0) (a .1) (a .2) (a .3) (x .0) (x .1) (x .2))
+  pub reports : Single (λ (a : Buffer × Buffer) (x : WgDone × Buffer). ReportCall (a .0) (a .1) (x .0) (x .1))
+  pub opens : Single (λ (a : Buffer × Buffer) (x : WgCount × Buffer). OpenCall (a .0) (a .1) (x .0) (x .1))
