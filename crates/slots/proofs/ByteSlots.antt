@@ -88,7 +88,7 @@ decoded-byte w c h l =
     }
 
 -- the same entry with other hits and marks
-with-byte : (w : ℕ) (x : Slot) (hits settled spare : ℕ) → ByteSlot w x → hits < 2 ^ 32 → settled < 256 → spare < 256
+pub with-byte : (w : ℕ) (x : Slot) (hits settled spare : ℕ) → ByteSlot w x → hits < 2 ^ 32 → settled < 256 → spare < 256
     → ByteSlot w (slotWith (entryOf x) hits settled spare)
 with-byte w x hits settled spare h low marked spared =
     let f = h .fits in
