@@ -6,18 +6,23 @@ use Prim.Native.Nat.{ℕ, _<_}
 use native.Mathlib.Omega.{arith}
 use lib.ListN.{length, set}
 use Rattle.model.specs.Bits.{Bytes}
-use Rattle.model.specs.Records.{Slot, Report, written, slotAt}
+use Rattle.model.specs.Records.{Slot, Report, Totals, written, slotAt}
 use Rattle.model.specs.Ends.{Miss, noRule, again, place, usedUp, missKeeper, isCurrent, confirmed, afterReport}
+use Rattle.model.specs.Trace.{Ends}
+use Rattle.model.specs.Totals.{totalsAfter}
 use Rattle.model.proofs.Cases.{by-cases}
 use Rattle.ternary.specs.Sizes.{keySize}
+use Rattle.buffers.specs.Parts.{splice, spelled}
 use Rattle.records.specs.Layout.{reportHits}
+use Rattle.records.specs.Traces.{packetCount, keys}
 use Rattle.checks.specs.Refusals.{unlessRefused}
 use Rattle.checks.specs.declared.refusal.Refusal.{Refusal}
 use Rattle.checks.proofs.RefusalLaws.{none-first}
-use Rattle.slots.specs.Slots.{slotCount, slots, putSlot}
+use Rattle.slots.specs.Slots.{encodeSlot, slotCount, slots, putSlot}
 use Rattle.slots.proofs.SlotLaws.{slots-put}
 use Rattle.slots.proofs.ByteSlots.{ByteSlot, confirmed-byte, four-below}
 use Rattle.messages.specs.Reports.{decodeReport}
+use Rattle.outcomes.specs.Outcomes.{encodeOutcome}
 use Rattle.policy.specs.Refusals.{policyRefusal, keyRefusal}
 use Rattle.policy.specs.Answers.{bestRefusal}
 use Rattle.policy.proofs.Acceptance.{accepted-bytes}
@@ -26,10 +31,22 @@ use Rattle.keeper.specs.Reports.{reportRefused, reportAnswer, reportBytes}
 use Rattle.keeper.proofs.ReportLaws.{accepted-of}
 use Rattle.verdict.specs.Decisions.{missIn}
 use Rattle.miss.specs.Answers.{partsRefusal, missRefused, missBytes}
+use Rattle.totals.specs.declared.Totals.{Totals as TotalsStruct}
+use Rattle.packet.specs.Packets.{endsIn}
+use Rattle.trace.specs.Refusals.{runRefusal}
+use Rattle.trace.specs.Runs.{outcomesOf, endsOf, runOf, RunIs}
+use Rattle.trace.specs.declared.RunAnswer.the-variants.{Refused, Packets}
+use Rattle.trace.specs.declared.Ran.{Ran}
 use Rattle.link.specs.Calls.{State}
 use Rattle.link.specs.AnyCall.{AnyCall}
+use Rattle.link.proofs.SlotBytes.{spelled-slots}
+use Rattle.link.proofs.PacketBytes.{trace-byte}
 use Rattle.link.proofs.MissBytes.{MissFits, miss-fits}
-use Rattle.link.proofs.Meaning.{Formed, keeper-whole, keeper-room, keeper-slot}
+use Rattle.link.proofs.Meaning.{Formed, keeper-whole, keeper-room, keeper-slots, both-slots}
+
+-- the model's record as the code's struct
+abbrev totalsStruct : Totals → TotalsStruct
+totalsStruct t = record { packets = t .packets; hits = t .hits; misses = t .misses; none = t .noRule; evictions = t .evictions }
 
 module _ {count : ℕ} {s : State} (f : Formed count s) where
   abbrev k : List Slot
@@ -41,7 +58,7 @@ module _ {count : ℕ} {s : State} (f : Formed count s) where
 
   -- ---- a miss
 
-  miss-slots : (m : Miss) → MissFits (s .keeper) m → slots keySize (missBytes (s .keeper) m) ≡ missKeeper k m
+  miss-slots : (m : Miss) → MissFits (slotCount keySize (s .keeper)) m → slots keySize (missBytes (s .keeper) m) ≡ missKeeper k m
   miss-slots noRule h = refl
   miss-slots (again i) h = refl
   miss-slots (place i e) h = put-slots i (written e) (h .0) (h .1)
@@ -56,7 +73,7 @@ module _ {count : ℕ} {s : State} (f : Formed count s) where
       let parts = none-first (partsRefusal policy key (s .keeper)) _ e .0 in
       let fine = none-first (policyRefusal policy) (keyRefusal key) (none-first (bestRefusal policy key) _ parts .0) .0 in
       miss-slots (missIn policy key (s .keeper))
-      (miss-fits policy b (accepted-bytes policy .0 fine) (s .keeper) (keeper-whole f) (f .keeper-bytes) key)
+      (miss-fits policy b (accepted-bytes policy .0 fine) k (keeper-slots f) (keeper-whole f .some-there) key)
 
   -- ---- a report
 
@@ -70,8 +87,42 @@ module _ {count : ℕ} {s : State} (f : Formed count s) where
       let low = four-below reportHits m b (omega (arith, taken .long)) in
       by-cases (isCurrent k x)
       (λ t. rw t (put-slots (x .slot) (confirmed (slotAt k (x .slot)) (x .hits)) (taken .inside)
-      (confirmed-byte keySize (slotAt k (x .slot)) (x .hits) (keeper-slot f (x .slot) (taken .inside)) low)))
+      (confirmed-byte keySize (slotAt k (x .slot)) (x .hits) (keeper-slots f .each (x .slot) (taken .inside)) low)))
       (λ t. rw t)
+
+  -- ---- a run
+
+  module _ (policy trace out : List ℕ) (t : Totals) (b : Bytes policy) where
+    abbrev ends : Ends
+    ends = endsOf policy trace (s .table) (s .keeper)
+
+    ends-spelled : policyRefusal policy ≡ none → endsIn (spelled encodeSlot (ends .table)) (spelled encodeSlot (ends .keeper)) ≡ ends
+    ends-spelled fine =
+        let accepted = accepted-bytes policy .0 fine in
+        let bytes = trace-byte policy b accepted (f .some-there) (keys keySize trace) (endsIn (s .table) (s .keeper)) (both-slots f) in
+        rw (spelled-slots count (ends .table) (bytes .table), spelled-slots count (ends .keeper) (bytes .keeper))
+
+    run-answered : (o : Option Refusal) → runRefusal policy trace (s .table) (s .keeper) (length out) t ≡ o
+        → (r : Ran) × (table′ : List ℕ) × (keeper′ : List ℕ) × (out′ : List ℕ)
+        × RunIs policy trace (s .table) (s .keeper) out t r table′ keeper′ out′
+    unfolding runOf runRefusal
+    run-answered (some x) e = (
+      record { answer = Refused x; totals = totalsStruct t },
+      s .table,
+      s .keeper,
+      out,
+      record { whole = rw e; meaning = rw e },
+    )
+    run-answered none e = (
+      record {
+        answer = Packets (packetCount keySize trace);
+        totals = totalsStruct (totalsAfter t (outcomesOf policy trace (s .table) (s .keeper)));
+      },
+      spelled encodeSlot (ends .table),
+      spelled encodeSlot (ends .keeper),
+      splice 0 (spelled encodeOutcome (outcomesOf policy trace (s .table) (s .keeper))) out,
+      record { whole = rw e; meaning = rw e (ends-spelled (none-first (policyRefusal policy) _ e .0)) },
+    )
 
   pub any-call : AnyCall s
   any-call =
@@ -86,4 +137,5 @@ module _ {count : ℕ} {s : State} (f : Formed count s) where
             (_, _, _, record { answer = refl; bytes = refl; meaning = miss-meant policy key (length out) b _ refl; given = refl });
         reports = λ m b. (_, _, record { answer = refl; bytes = refl; meaning = report-meant m b _ refl });
         opens = λ out. (_, _, record { answer = refl; written = refl });
+        runs = λ policy trace out t b. run-answered policy trace out t b _ refl;
       }

@@ -1,7 +1,7 @@
 -- What a call gave, as bytes and in the model; and a message that was given, by its place in the list. Assumes nothing.
 use mathlib.Core.Path.{_≡_, refl, sym, ap, subst}
 use mathlib.Core.Logic.{⊎-elim}
-use mathlib.Core.List.{List, [], _∷_, map, List·Memᴰ, List·Memᴰ·cases-cons, List·Memᴰ·not-nil}
+use mathlib.Core.List.{List, [], _∷_, map, List·Memᴰ, List·Memᴰ·cases-cons, List·Memᴰ·not-nil, Memᴰ·map}
 use mathlib.Core.Option.{Option, none, some, Option·map}
 use Prim.Native.Nat.{ℕ, suc, _≤_}
 use native.Mathlib.Omega.{arith}
@@ -42,15 +42,19 @@ module _ {A : Type 0} {decode : List ℕ → A} {IsFormed : List ℕ → Type 0}
   sent-formed none l is old m h = old m h
   sent-formed (some x) l is old m h = ⊎-elim (λ e. subst IsFormed (sym e) (is .formed x refl)) (old m) (List·Memᴰ·cases-cons h)
 
--- a message that was given stands somewhere in the list
+-- a member stands somewhere in the list
+pub member-place : {A : Type 0} (l : List A) (x : A) → List·Memᴰ x l → (j : ℕ) × (getElem? l j ≡ some x)
+member-place [] x h = absurd (List·Memᴰ·not-nil h)
+member-place (y ∷ l) x h =
+    ⊎-elim
+    (λ e. (0, ap some (sym e)))
+    (λ t. let r = member-place l x t in (suc (r .0), r .1))
+    (List·Memᴰ·cases-cons h)
+
+-- and so does what a message that was given means
 pub place-of : {A : Type 0} (decode : List ℕ → A) (l : List (List ℕ)) (m : List ℕ) → List·Memᴰ m l
     → (j : ℕ) × (getElem? (map decode l) j ≡ some (decode m))
-place-of decode [] m h = absurd (List·Memᴰ·not-nil h)
-place-of decode (x ∷ l) m h =
-    ⊎-elim
-    (λ e. (0, ap (λ (y : List ℕ). some (decode y)) (sym e)))
-    (λ t. let r = place-of decode l m t in (suc (r .0), r .1))
-    (List·Memᴰ·cases-cons h)
+place-of decode l m h = member-place (map decode l) (decode m) (Memᴰ·map decode h)
 
 -- ---- at the start of an output
 

@@ -38,7 +38,8 @@ use Rattle.link.specs.Calls.{miss as missCall, report as reportCall}
 use Rattle.link.proofs.MessageBytes.{WriteBytes, ReportBytes}
 use Rattle.link.proofs.MissBytes.{MissFits, miss-fits, write-there}
 use Rattle.link.proofs.Given.{Gives, gives-none, gives-write, sent-meant, place-of}
-use Rattle.link.proofs.Meaning.{meaning, same-world, Formed, Replaced, Stepped, keeper-whole, keeper-room, keeper-slot, stayed, keeper-formed}
+use Rattle.link.proofs.Meaning.{meaning, same-world, Formed, Replaced, Stepped, keeper-whole, keeper-room, keeper-slots, stayed}
+use Rattle.link.proofs.Meaning.{keeper-formed}
 
 -- room for a write
 room-for : (room : ℕ) → need (not (ltb room (writeSize keySize))) shortOutput none ≡ none → writeSize keySize ≤ room
@@ -62,7 +63,7 @@ module _ {count : ℕ} {s : State} (f : Formed count s) where
 
   -- ---- a miss
 
-  miss-replaced : (m : Miss) → MissFits (s .keeper) m → Replaced (s .keeper) (missBytes (s .keeper) m)
+  miss-replaced : (m : Miss) → MissFits (slotCount keySize (s .keeper)) m → Replaced (s .keeper) (missBytes (s .keeper) m)
   miss-replaced noRule h = keeper-same
   miss-replaced (again i) h = keeper-same
   miss-replaced (place i e) h = keeper-put i (written e) (h .0) (h .1)
@@ -70,12 +71,12 @@ module _ {count : ℕ} {s : State} (f : Formed count s) where
 
   -- outcomes 2, 3 and 5 give a write
   module _ (p : Decisions) (out : List ℕ) where
-    miss-gives : (m : Miss) → MissFits (s .keeper) m → roomRefusal (missWrite k m) (length out) ≡ none
+    miss-gives : (m : Miss) → MissFits (slotCount keySize (s .keeper)) m → roomRefusal (missWrite k m) (length out) ≡ none
         → Gives (decodeWrite keySize) WriteBytes (missGave (Outcome (asStruct (missOutcome p k m))) (outWith (missWrite k m) out)) (missWrite k m)
     unfolding givesWrite
     miss-gives noRule h room = gives-none
     miss-gives (again i) h room =
-        gives-write (writeFor i (entryAt k i)) (write-there (s .keeper) (keeper-whole f) i (slotAt k i) h (keeper-slot f i h)) out
+        gives-write (writeFor i (entryAt k i)) (write-there (s .keeper) (keeper-whole f) i (slotAt k i) h (keeper-slots f .each i h)) out
         (room-for (length out) room)
     miss-gives (place i e) h room =
         let given =
@@ -92,7 +93,7 @@ module _ {count : ℕ} {s : State} (f : Formed count s) where
     unfolding step meaning missRefused
     missed-with {out} {r} {keeper′} {out′} is fine =
         let m : Miss = missIn policy key (s .keeper) in
-        let h = miss-fits policy b accepted (s .keeper) (keeper-whole f) (f .keeper-bytes) key in
+        let h = miss-fits policy b accepted k (keeper-slots f) (keeper-whole f .some-there) key in
         let room = none-first (partsRefusal policy key (s .keeper)) _ fine .1 in
         let answer = rw fine at (is .answer) in
         let bytes = rw fine at (is .bytes) in
@@ -127,7 +128,7 @@ module _ {count : ℕ} {s : State} (f : Formed count s) where
       let low = four-below reportHits m (h .bytes) (omega (arith, h .long)) in
       cond-elim (Replaced (s .keeper)) (isCurrent k x)
       (λ e. keeper-put (x .slot) (confirmed (slotAt k (x .slot)) (x .hits)) l
-      (confirmed-byte keySize (slotAt k (x .slot)) (x .hits) (keeper-slot f (x .slot) l) low))
+      (confirmed-byte keySize (slotAt k (x .slot)) (x .hits) (keeper-slots f .each (x .slot) l) low))
       (λ e. keeper-same)
 
   module _ (p : Decisions) {m : List ℕ} {r : ReportAnswer} {keeper′ : List ℕ} (is : Reported (s .keeper) m r keeper′) where

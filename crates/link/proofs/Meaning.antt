@@ -6,19 +6,20 @@ use Prim.Native.Nat.{ℕ, _+_, _*_, _≤_, _<_}
 use native.Mathlib.Omega.{arith}
 use lib.ListN.{length}
 use Rattle.model.specs.Bits.{Bytes}
-use Rattle.model.specs.Records.{Write, Report, slotAt}
+use Rattle.model.specs.Records.{Write, Report}
 use Rattle.model.specs.Ends.{Decisions}
 use Rattle.model.specs.World.{World, Event, refused, sent, step}
 use Rattle.ternary.specs.Sizes.{keySize, positions}
 use Rattle.records.specs.Layout.{slotSize, mostSlots}
 use Rattle.slots.specs.Slots.{slotCount, slots}
 use Rattle.slots.specs.Refusals.{WholeSlots}
-use Rattle.slots.proofs.ByteSlots.{ByteSlot}
 use Rattle.messages.specs.Writes.{decodeWrite}
 use Rattle.messages.specs.Reports.{decodeReport}
+use Rattle.packet.specs.Packets.{endsIn}
 use Rattle.link.specs.Calls.{State}
 use Rattle.link.proofs.MessageBytes.{WriteBytes, ReportBytes}
-use Rattle.link.proofs.MissBytes.{slot-there}
+use Rattle.link.proofs.SlotBytes.{ByteSlots, slots-byte}
+use Rattle.link.proofs.PacketBytes.{ByteEnds}
 use Rattle.link.proofs.Given.{Gives, sent-formed}
 
 unfoldable pub meaning : State → World
@@ -70,11 +71,18 @@ module _ {count : ℕ} {s : State} (f : Formed count s) where
   keeper-room i l = omega (arith, keeper-whole .whole)
 
   -- the slots are ones that bytes can hold
-  pub keeper-slot : (i : ℕ) → i < slotCount keySize (s .keeper) → ByteSlot keySize (slotAt (slots keySize (s .keeper)) i)
-  keeper-slot = slot-there (s .keeper) keeper-whole (f .keeper-bytes)
+  pub keeper-slots : ByteSlots (slotCount keySize (s .keeper)) (slots keySize (s .keeper))
+  keeper-slots = slots-byte (s .keeper) keeper-whole (f .keeper-bytes)
 
-  pub table-slot : (i : ℕ) → i < slotCount keySize (s .table) → ByteSlot keySize (slotAt (slots keySize (s .table)) i)
-  table-slot = slot-there (s .table) table-whole (f .table-bytes)
+  pub table-slots : ByteSlots (slotCount keySize (s .table)) (slots keySize (s .table))
+  table-slots = slots-byte (s .table) table-whole (f .table-bytes)
+
+  -- and each end has so many
+  pub both-slots : ByteEnds count (endsIn (s .table) (s .keeper))
+  both-slots =
+      let k : slotCount keySize (s .keeper) ≡ count = omega (arith, f .keeper-long) in
+      let t : slotCount keySize (s .table) ≡ count = omega (arith, f .table-long) in
+      record { keeper = rw k at keeper-slots; table = rw t at table-slots }
 
   -- nothing changed
   pub stayed : {p : Decisions} → Stepped p count s s

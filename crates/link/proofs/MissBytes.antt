@@ -22,13 +22,13 @@ use Rattle.buffers.proofs.PartLaws.{part-bytes}
 use Rattle.records.specs.Layout.{ruleSize, ruleValue, ruleMask, ruleAction}
 use Rattle.records.specs.Rules.{ruleCount, rules}
 use Rattle.records.proofs.RuleLaws.{rule-count, value-in-place, mask-in-place, action-in-place}
-use Rattle.slots.specs.Slots.{slotCount, slots}
+use Rattle.slots.specs.Slots.{slotCount}
 use Rattle.slots.specs.Refusals.{WholeSlots}
-use Rattle.slots.proofs.SlotLaws.{slot-count, slot-at}
-use Rattle.slots.proofs.ByteSlots.{ByteSlot, byte-more, two-below, slot-byte}
+use Rattle.slots.proofs.ByteSlots.{ByteSlot, byte-more, two-below}
 use Rattle.policy.specs.Refusals.{AcceptedBytes}
-use Rattle.verdict.specs.Decisions.{deciding, missIn}
+use Rattle.verdict.specs.Decisions.{deciding}
 use Rattle.link.proofs.MessageBytes.{ByteWrite}
+use Rattle.link.proofs.SlotBytes.{ByteSlots}
 
 -- ---- rows with some bits fixed
 
@@ -51,18 +51,12 @@ unfolding largest
 largest-le [] b e = omega arith
 largest-le (x ∷ xs) b e = omega (arith, e 0, largest-le xs b (λ i. e (suc i)))
 
-module _ (bs : List ℕ) (whole : WholeSlots bs) (h : Bytes bs) where
-  abbrev k : List Slot
-  k = slots keySize bs
-
-  pub slot-there : (i : ℕ) → i < slotCount keySize bs → ByteSlot keySize (slotAt k i)
-  slot-there i l = rw (slot-at keySize bs i l) (slot-byte keySize bs i l (omega (arith, whole .whole)) h)
-
+module _ {count : ℕ} {k : List Slot} (h : ByteSlots count k) where
   sequence-low : (i : ℕ) → slotAt k i .sequence ≤ top
   sequence-low i =
       by-cases (ltb 0 (slotAt k i .sequence))
-      (λ t. let l : i < slotCount keySize bs = omega (arith, live-inside k i (ltb-true 0 _ t), slot-count keySize bs) in
-      omega (arith, slot-there i l .fits .sequence-fits))
+      (λ t. let l : i < count = omega (arith, live-inside k i (ltb-true 0 _ t), h .long) in
+      omega (arith, h .each i l .fits .sequence-fits))
       (λ t. omega (arith, ltb-false 0 (slotAt k i .sequence) t))
 
   largest-low : largest k ≤ top
@@ -87,12 +81,12 @@ write-there bs whole i x l b =
 
 -- ---- what a miss comes to
 
--- the slot that it names is one of the keeper, and the entry that it places is one that bytes can hold
-abbrev pub MissFits : List ℕ → Miss → Type 0
-MissFits keeper noRule = Unit {0}
-MissFits keeper (again i) = i < slotCount keySize keeper
-MissFits keeper (place i e) = (i < slotCount keySize keeper) × ByteSlot keySize (written e)
-MissFits keeper (usedUp r) = Unit {0}
+-- the slot that it names is one of the keeper's, of which there are so many, and the entry that it places is one that bytes can hold
+abbrev pub MissFits : ℕ → Miss → Type 0
+MissFits count noRule = Unit {0}
+MissFits count (again i) = i < count
+MissFits count (place i e) = (i < count) × ByteSlot keySize (written e)
+MissFits count (usedUp r) = Unit {0}
 
 module _ (policy : List ℕ) (h : Bytes policy) (is : AcceptedBytes policy) where
   abbrev pol : List Rule
@@ -110,10 +104,7 @@ module _ (policy : List ℕ) (h : Bytes policy) (is : AcceptedBytes policy) wher
         rw (action-in-place keySize policy r l)
         (two-below (ruleSize keySize * r + ruleAction keySize) policy h (omega (arith, is .whole)))
 
-  module _ (keeper : List ℕ) (whole : WholeSlots keeper) (b : Bytes keeper) (key : List ℕ) where
-    abbrev ks : List Slot
-    ks = slots keySize keeper
-
+  module _ {count : ℕ} (ks : List Slot) (b : ByteSlots count ks) (one : 1 ≤ count) (key : List ℕ) where
     next-byte : (r : ℕ) → best positions pol key ≡ some r → eqb (largest ks) top ≡ false
         → ByteSlot keySize (written (nextEntry (deciding policy) ks key r))
     unfolding isolate isolatedAt
@@ -122,7 +113,7 @@ module _ (policy : List ℕ) (h : Bytes policy) (is : AcceptedBytes policy) wher
         let l : r < ruleCount keySize policy = omega (arith, rule-count keySize policy) in
         record {
           fits = record {
-            sequence-fits = omega (arith, largest-low keeper whole b, eqb-false (largest ks) top u);
+            sequence-fits = omega (arith, largest-low b, eqb-false (largest ks) top u);
             hits-fits = omega arith;
             value-long = length-with (bitAt key) _ _ ∙ is .accepted .value-long r inside;
             mask-long = length-with (λ p. 1) _ _ ∙ is .accepted .mask-long r inside;
@@ -136,13 +127,13 @@ module _ (policy : List ℕ) (h : Bytes policy) (is : AcceptedBytes policy) wher
         }
 
     fits-of : (found-best at : Option ℕ) (used : Bool) → best positions pol key ≡ found-best → firstFor positions ks key ≡ at
-        → eqb (largest ks) top ≡ used → MissFits keeper (missOf found-best at used (roomIn ks) (nextEntry (deciding policy) ks key))
+        → eqb (largest ks) top ≡ used → MissFits count (missOf found-best at used (roomIn ks) (nextEntry (deciding policy) ks key))
     fits-of none at used e f u = tt
-    fits-of (some r) (some i) used e f u = omega (arith, found positions ks key i f .inside, slot-count keySize keeper)
+    fits-of (some r) (some i) used e f u = omega (arith, found positions ks key i f .inside, b .long)
     fits-of (some r) none true e f u = tt
     fits-of (some r) none false e f u =
-        (omega (arith, roomIn-lt ks (omega (arith, slot-count keySize keeper, whole .some-there)), slot-count keySize keeper), next-byte r e u)
+        (omega (arith, roomIn-lt ks (omega (arith, b .long)), b .long), next-byte r e u)
 
-    pub miss-fits : MissFits keeper (missIn policy key keeper)
+    pub miss-fits : MissFits count (onMiss positions (deciding policy) ks key)
     unfolding onMiss
     miss-fits = fits-of (best positions pol key) (firstFor positions ks key) (eqb (largest ks) top) refl refl refl

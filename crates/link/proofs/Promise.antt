@@ -6,20 +6,24 @@ use mathlib.Core.List.{List, [], _∷_, List·Memᴰ, Memᴰ·map}
 use mathlib.Core.Option.{Option, none, some}
 use Prim.Native.Nat.{ℕ, _*_, _≤_, _<_}
 use native.Mathlib.Omega.{arith}
-use lib.ListN.{length}
+use lib.ListN.{length, take}
 use lib.Seq.{take-all}
 use borrow.Author.Tests.{eq-eqb, le-ltb}
 use Rattle.model.specs.Bits.{Bytes}
 use Rattle.model.specs.Records.{Slot, entryOf, entryAt}
-use Rattle.model.specs.Ends.{Decisions, Hit, lookup}
-use Rattle.model.specs.World.{run}
-use Rattle.model.specs.Promise.{Kept, Sound}
-use Rattle.model.proofs.Promise.{GoodWorld, step-good, good-kept, always-good, policy-sound}
+use Rattle.model.specs.Ends.{Key, Decisions, Hit, lookup}
+use Rattle.model.specs.World.{World}
+use Rattle.model.specs.Promise.{Kept}
+use Rattle.model.specs.Trace.{trace}
+use Rattle.model.specs.TraceLink.{endsOf, NoInnerRefusal}
+use Rattle.model.proofs.Promise.{promise}
+use Rattle.model.proofs.TraceLink.{inner-promise}
 use Rattle.ternary.specs.Sizes.{keySize, positions}
 use Rattle.buffers.specs.Numbers.{be}
 use Rattle.buffers.specs.Parts.{part}
 use Rattle.records.specs.Layout.{reportSize, mostRules, mostSlots}
 use Rattle.records.specs.Rules.{rules}
+use Rattle.records.specs.Traces.{keys}
 use Rattle.slots.specs.Slots.{slotCount, slots}
 use Rattle.slots.proofs.SlotLaws.{slot-at}
 use Rattle.slots.proofs.FitLaws.{slots-accepted}
@@ -40,7 +44,9 @@ use Rattle.keeper.proofs.OpenLaws.{list-few}
 use Rattle.verdict.specs.Decisions.{deciding}
 use Rattle.link.specs.Calls.{State, clearedEnds, Call, after, Sequence, Throughout}
 use Rattle.link.specs.AnyCall.{AnyCall, AnyCallPromise}
+use Rattle.link.specs.RunPromise.{QuietRuns, RunPromise}
 use Rattle.link.specs.Promise.{MissOrBest, entryOfBytes, KeptBytes, LinkPromise}
+use Rattle.link.proofs.Grown.{kept-among, Grown, grown-start}
 use Rattle.link.proofs.Meaning.{meaning, Formed, keeper-whole, table-whole}
 use Rattle.link.proofs.Steps.{stepped}
 use Rattle.link.proofs.Start.{start-meant, start-formed}
@@ -134,31 +140,40 @@ module _ (policy : List ℕ) (b : Bytes policy) (fine : policyRefusal policy ≡
   accepted : AcceptedBytes policy
   accepted = accepted-bytes policy .0 fine
 
-  sound : Sound positions p
-  sound = policy-sound keySize mostRules (rules keySize policy) (accepted .accepted)
+  -- what is promised in the model, of a world that has grown from cleared ends
+  module _ (count : ℕ) (one : 1 ≤ count) (few : count ≤ mostSlots) (a : World) (g : Grown p count a) where
+    pub grown-kept : Kept positions p a
+    grown-kept =
+        kept-among positions p (g .among) (promise keySize mostRules (rules keySize policy) (accepted .accepted) count one few (g .events))
 
-  -- what holds of every formed state whose meaning is good holds at every point
-  module _ (P : State → Type 0) (count : ℕ)
-      (here : (s : State) → Formed count s → GoodWorld positions p keySize count (meaning s) → P s) where
-    throughout : (calls : List Call) (s : State) → Formed count s → GoodWorld positions p keySize count (meaning s)
-        → Sequence policy s calls → Throughout P s calls
+    pub grown-quiet : (ks : List Key) (key : Key) → NoInnerRefusal positions p (trace positions p (endsOf a) ks) key
+    grown-quiet ks key =
+        inner-promise keySize mostRules (rules keySize policy) (accepted .accepted) count one few (g .events) (endsOf a) (g .among .ends) ks key
+
+  -- what holds of every formed state that has grown so holds at every point
+  module _ (P : State → Type 0) (count : ℕ) (here : (s : State) → Formed count s → Grown p count (meaning s) → P s) where
+    throughout : (calls : List Call) (s : State) → Formed count s → Grown p count (meaning s) → Sequence policy s calls → Throughout P s calls
     throughout [] s f g made = here s f g
     throughout (c ∷ calls) s f g made =
         let next = stepped policy b accepted f c (made .0 .0) (made .0 .1) in
-        let good = step-good positions p sound keySize count (f .some-there) (meaning s) g (next .event) in
-        (here s f g, throughout calls (after s c) (next .formed) (rw (next .meant) good) (made .1))
+        (here s f g, throughout calls (after s c) (next .formed) (next .grown g) (made .1))
 
     pub from-start : 1 ≤ count → count ≤ mostSlots → (calls : List Call)
         → Sequence policy (clearedEnds count) calls → Throughout P (clearedEnds count) calls
-    unfolding run
     from-start one few calls made =
-        throughout calls (clearedEnds count) (start-formed count one few)
-        (rw (start-meant count) (always-good positions p sound keySize count one [])) made
+        throughout calls (clearedEnds count) (start-formed count one few) (rw (start-meant count) (grown-start p count)) made
 
 pub link-promise : LinkPromise
 link-promise policy b fine count one few calls made =
     from-start policy b fine (KeptBytes policy count) count
-    (λ s f g. kept-bytes policy fine f (good-kept positions (deciding policy) keySize count (meaning s) g)) one few calls made
+    (λ s f g. kept-bytes policy fine f (grown-kept policy b fine count one few (meaning s) g)) one few calls made
+
+pub run-promise : RunPromise
+unfolding meaning
+run-promise policy b fine count one few calls made =
+    from-start policy b fine (QuietRuns policy) count
+    (λ s f g. record { quiet = λ trace n l. grown-quiet policy b fine count one few (meaning s) g (take n (keys keySize trace)) _ })
+    one few calls made
 
 pub any-call-promise : AnyCallPromise
 any-call-promise policy b fine count one few calls made =

@@ -28,9 +28,9 @@ use Rattle.received.proofs.AfterLaws.{after-lookup, after-write}
 use Rattle.link.specs.Calls.{State, lookupGave, writeGave, after}
 use Rattle.link.specs.Calls.{lookup as lookupCall, write as writeCall}
 use Rattle.link.proofs.MessageBytes.{ReportBytes}
-use Rattle.link.proofs.MissBytes.{slot-there}
+use Rattle.link.proofs.SlotBytes.{slots-byte}
 use Rattle.link.proofs.Given.{Gives, gives-none, gives-report, sent-meant, place-of}
-use Rattle.link.proofs.Meaning.{meaning, same-world, Formed, Replaced, Stepped, whole-of, table-whole, table-slot, stayed, table-formed}
+use Rattle.link.proofs.Meaning.{meaning, same-world, Formed, Replaced, Stepped, whole-of, table-whole, table-slots, stayed, table-formed}
 
 -- the report of a slot that bytes can hold
 report-fits : (i : ℕ) (x : Slot) → i < mostSlots → ByteSlot keySize x → ReportFits (reportFor i x)
@@ -56,7 +56,7 @@ module _ (p : Decisions) {count : ℕ} {s : State} (f : Formed count s) where
         let x : Report = reportFor i (counted (slotAt t i)) in
         let fits : ReportFits x =
         report-fits i (counted (slotAt t i)) (omega (arith, table-whole f .few-there))
-        (counted-byte keySize _ (table-slot f i l))
+        (counted-byte keySize _ (table-slots f .each i l))
         in
         rw (a .0, a .2, e) (gives-report x fits out (good-lookup key (s .table) (length out) .0 fine .fits i e))
 
@@ -93,7 +93,7 @@ module _ (p : Decisions) {count : ℕ} {s : State} (f : Formed count s) where
           let whole : WholeSlots table′ = whole-of f table′ (b .long ∙ f .table-long) in
           let l : w .slot < slotCount keySize table′ = omega (arith, call .good .slot-there, b .long) in
           let fits : ReportFits (reportFor (w .slot) (slotAt (slots keySize table′) (w .slot))) =
-          report-fits (w .slot) _ (omega (arith, whole .few-there)) (slot-there table′ whole (b .bytes) (w .slot) l)
+          report-fits (w .slot) _ (omega (arith, whole .few-there)) (slots-byte table′ whole (b .bytes) .each (w .slot) l)
           in
           rw (a .0, a .2) (gives-report _ (rw (a .1) at fits) out (call .fits))
 

@@ -4,6 +4,7 @@ use mathlib.Core.List.{List}
 use mathlib.Core.Option.{none}
 use Prim.Native.Nat.{ℕ, _≤_}
 use Rattle.model.specs.Bits.{Bytes}
+use Rattle.model.specs.Records.{Totals}
 use Rattle.records.specs.Layout.{mostSlots}
 use Rattle.policy.specs.Refusals.{policyRefusal}
 use Rattle.table.specs.Lookups.{LookedUp}
@@ -16,6 +17,8 @@ use Rattle.keeper.specs.declared.ReportAnswer.{ReportAnswer}
 use Rattle.keeper.specs.declared.OpenAnswer.{OpenAnswer}
 use Rattle.miss.specs.Answers.{Missed}
 use Rattle.miss.specs.declared.MissAnswer.{MissAnswer}
+use Rattle.trace.specs.Runs.{RunIs}
+use Rattle.trace.specs.declared.Ran.{Ran}
 use Rattle.link.specs.Calls.{State, clearedEnds, Call, Sequence, Throughout}
 
 -- whatever its arguments, each call has an answer and leaves buffers as its function promises
@@ -27,6 +30,8 @@ pub record AnyCall (s : State) : Type 0 where
       → (r : MissAnswer) × (keeper′ : List ℕ) × (out′ : List ℕ) × Missed policy key (s .keeper) out r keeper′ out′
   pub reports : (m : List ℕ) → Bytes m → (r : ReportAnswer) × (keeper′ : List ℕ) × Reported (s .keeper) m r keeper′
   pub opens : (out : List ℕ) → (r : OpenAnswer) × (out′ : List ℕ) × Opened (s .keeper) out r out′
+  pub runs : (policy trace out : List ℕ) (t : Totals) → Bytes policy
+      → (r : Ran) × (table′ : List ℕ) × (keeper′ : List ℕ) × (out′ : List ℕ) × RunIs policy trace (s .table) (s .keeper) out t r table′ keeper′ out′
 
 -- at every point of every sequence of calls
 abbrev pub AnyCallPromise : Type 0

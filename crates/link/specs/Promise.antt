@@ -52,7 +52,7 @@ pub record KeptBytes (policy : List ℕ) (count : ℕ) (s : State) : Type 0 wher
   pub writesTaken : (m : List ℕ) → List·Memᴰ m (s .writes) → (room : ℕ) → reportSize ≤ room → writeCallRefusal (s .table) m room ≡ none
   pub reportsTaken : (m : List ℕ) → List·Memᴰ m (s .reports) → reportRefused (s .keeper) m ≡ none
 
--- For every policy that the check does not refuse, 1 to 256 slots, and every sequence of calls from cleared ends: at every point.
+-- For every policy that the check does not refuse, 1 to 256 slots, and every sequence of calls from cleared ends, runs among them: at every point.
 abbrev pub LinkPromise : Type 0
 LinkPromise = (policy : List ℕ) → Bytes policy → policyRefusal policy ≡ none → (count : ℕ) → 1 ≤ count → count ≤ mostSlots
     → (calls : List Call) → Sequence policy (clearedEnds count) calls → Throughout (KeptBytes policy count) (clearedEnds count) calls
