@@ -1,0 +1,2 @@
+-- Lists in order of precedence.
+pub mod Places
