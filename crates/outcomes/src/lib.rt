@@ -5,7 +5,7 @@ ghost use Prim.Native.Nat.{_+_, _*_, _≤_};
 ghost use lib.ListN.{length};
 ghost use Rattle.buffers.specs.Parts.{splice};
 ghost use Rattle.records.specs.Layout.{outcomeSize};
-ghost use Rattle.outcomes.specs.Outcomes.{encodeOutcome, asOutcome};
+ghost use Rattle.outcomes.specs.Outcomes.{decodeOutcome, encodeOutcome, asOutcome};
 
 pub struct Outcome {
     pub outcome: u8,
@@ -13,6 +13,20 @@ pub struct Outcome {
     pub rule: u16,
     pub slot: u16,
     pub evicted: u16,
+}
+
+// The outcome that bytes spell.
+pub fn outcome_of(c: &[u8]) -> Outcome
+    requires { ⌜ length (now c) ≡ outcomeSize ⌝ }
+    ensures { λ r. ⌜ asOutcome r ≡ decodeOutcome (now (c .entry)) ⌝ }
+{
+    Outcome {
+        outcome: c[layout::OUTCOME_KIND],
+        action: buffers::be16(c, layout::OUTCOME_ACTION),
+        rule: buffers::be16(c, layout::OUTCOME_RULE),
+        slot: buffers::be16(c, layout::OUTCOME_SLOT),
+        evicted: buffers::be16(c, layout::OUTCOME_EVICTED),
+    }
 }
 
 // The bytes of an outcome.

@@ -77,7 +77,17 @@ pub const REPORT_HITS: usize = REPORT_SEQUENCE + 4;
 pub const REPORT_SIZE: usize = REPORT_HITS + 4;
 
 // Outcome: outcome 1, zero 1, action 2, rule 2, slot 2, evicted rule 2, zero 2.
-pub const OUTCOME_SIZE: usize = 12;
+pub const OUTCOME_KIND: usize = 0;
+
+pub const OUTCOME_ACTION: usize = OUTCOME_KIND + 2;
+
+pub const OUTCOME_RULE: usize = OUTCOME_ACTION + 2;
+
+pub const OUTCOME_SLOT: usize = OUTCOME_RULE + 2;
+
+pub const OUTCOME_EVICTED: usize = OUTCOME_SLOT + 2;
+
+pub const OUTCOME_SIZE: usize = OUTCOME_EVICTED + 4;
 
 // The kind byte of every write, and of every report.
 pub const IS_WRITE: u8 = 1;

@@ -1,0 +1,3 @@
+-- Laws of decimals and of lines.
+pub mod DecimalLaws
+pub mod LineLaws

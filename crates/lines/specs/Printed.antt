@@ -1,0 +1,48 @@
+-- The lines that the program prints. Assumes nothing.
+use mathlib.Core.Bool.{cond}
+use mathlib.Core.List.{List, [], _∷_, _++_}
+use Prim.Native.Nat.{ℕ}
+use lib.Dec.{eqb}
+use Rattle.model.specs.Records.{Outcome, Totals}
+use Rattle.lines.specs.Decimal.{decimal}
+
+abbrev pub space : ℕ
+space = 32
+
+abbrev pub newline : ℕ
+newline = 10
+
+abbrev pub dash : ℕ
+dash = 45
+
+-- words with one space between, and a newline after
+abbrev pub lineOf : List (List ℕ) → List ℕ
+lineOf [] = newline ∷ []
+lineOf (word ∷ []) = word ++ (newline ∷ [])
+lineOf (word ∷ next ∷ words) = word ++ (space ∷ lineOf (next ∷ words))
+
+-- no rule, no slot or no evicted rule
+abbrev pub nothing : ℕ
+nothing = 65535
+
+-- a rule or slot number, or a dash where there is none
+unfoldable pub orDash : ℕ → List ℕ
+orDash n = cond (eqb n nothing) (dash ∷ []) (decimal n)
+
+-- outcome, action, rule, slot, evicted rule
+unfoldable pub outcomeLine : Outcome → List ℕ
+outcomeLine x =
+    lineOf (decimal (x .outcome) ∷ decimal (x .action) ∷ orDash (x .rule) ∷ orDash (x .slot) ∷ orDash (x .evicted) ∷ [])
+
+-- packets, hits, misses, no rule, evictions
+unfoldable pub totalsLine : Totals → List ℕ
+totalsLine t =
+    lineOf (decimal (t .packets) ∷ decimal (t .hits) ∷ decimal (t .misses) ∷ decimal (t .noRule) ∷ decimal (t .evictions) ∷ [])
+
+-- the word `refused` in ASCII
+abbrev pub refusedWord : List ℕ
+refusedWord = 114 ∷ 101 ∷ 102 ∷ 117 ∷ 115 ∷ 101 ∷ 100 ∷ []
+
+-- `refused`, number, place
+unfoldable pub refusalLine : ℕ → ℕ → List ℕ
+refusalLine number place = lineOf (refusedWord ∷ decimal number ∷ decimal place ∷ [])
