@@ -1,0 +1,3 @@
+-- What the program's three files say.
+pub mod Slots
+pub mod Files

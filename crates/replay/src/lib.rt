@@ -1,0 +1,40 @@
+// What the program's three files say, by their bytes alone.
+pub mod slots;
+
+use checks::refusal;
+use checks::refusal::Refusal;
+use records::layout;
+ghost use mathlib.Core.Path.{_≡_};
+ghost use Rattle.replay.specs.Files.{fileAnswer};
+
+// A refusal, or the number of slots.
+pub enum FileAnswer {
+    Refused(Refusal),
+    Slots(usize),
+}
+
+// What the files' sizes and slots.txt come to, before any other test: refusal 4, then 2 for the policy, then 2 for the trace.
+pub fn file_answer(slots: &[u8], policy: &[u8], trace: &[u8]) -> FileAnswer
+    ensures { λ r. ⌜ r ≡ fileAnswer (now (slots .entry)) (now (policy .entry)) (now (trace .entry)) ⌝ }
+{
+    let n = slots::slot_count(slots);
+    if n == 0 {
+        return FileAnswer::Refused(Refusal {
+            number: refusal::BAD_SLOTS,
+            place: 0,
+        });
+    }
+    if policy.len() > layout::RULE_SIZE * layout::MOST_RULES {
+        return FileAnswer::Refused(Refusal {
+            number: refusal::TOO_MANY,
+            place: 0,
+        });
+    }
+    if trace.len() > layout::TRACE_SIZE * layout::MOST_PACKETS {
+        return FileAnswer::Refused(Refusal {
+            number: refusal::TOO_MANY,
+            place: 0,
+        });
+    }
+    FileAnswer::Slots(n)
+}
