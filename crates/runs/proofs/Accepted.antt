@@ -77,8 +77,11 @@ module _ (t : Totals) (c : Call) (is : Made t c) where
         meaning = is .meaning ∙ ap (λ o. endsLeft o (c .policy) (c .trace) (c .table) (c .keeper)) fine;
       }
 
+  pub refused-by : {r : Refusal} → c .ran .answer ≡ Refused r → refusedWith ≡ some r
+  refused-by a = refused-some refusedWith (sym a ∙ answer-of)
+
   pub refused-run : {r : Refusal} → c .ran .answer ≡ Refused r → left c ≡ t
-  refused-run {r} a = ap (λ (s : Shown). s .totals) (whole-of (some r) (refused-some refusedWith (sym a ∙ answer-of)))
+  refused-run {r} a = ap (λ (s : Shown). s .totals) (whole-of (some r) (refused-by a))
 
 -- ---- the outcomes in the output
 
@@ -102,7 +105,8 @@ module _ {t : Totals} {c : Call} {n : ℕ} (is : AcceptedRun t c n) where
   told-bytes =
       rw at-start (take-at (spelled encodeOutcome os) _ (outcomeSize * n) (length-spelled os ∙ ap (λ (k : ℕ). outcomeSize * k) outcome-count))
 
-  read-back : recordsIn outcomeSize decodeOutcome n (c .out′) ≡ map (λ o. decodeOutcome (encodeOutcome o)) os
+  -- and are read back from it as they were recorded
+  pub read-back : recordsIn outcomeSize decodeOutcome n (c .out′) ≡ map (λ o. decodeOutcome (encodeOutcome o)) os
   read-back =
       ap (recordsIn outcomeSize decodeOutcome n) at-start
       ∙ ap (λ (k : ℕ). recordsIn outcomeSize decodeOutcome k (spelled encodeOutcome os ++ drop (length (spelled encodeOutcome os)) (c .out)))

@@ -1,0 +1,126 @@
+-- A run from cleared ends: how it is refused, and what its output and totals say. Assumes nothing.
+use mathlib.Core.Path.{_≡_, refl, sym, ap, _∙_}
+use mathlib.Core.Bool.{true}
+use mathlib.Core.List.{List, [], _∷_, map}
+use mathlib.Core.Option.{Option, none, some}
+use Prim.Native.Nat.{ℕ, zero, suc, _*_, _≤_, _<_}
+use native.Mathlib.Nat.{le-of-suc-le-suc}
+use native.Mathlib.Omega.{arith}
+use borrow.Author.Tests.{le-leb, eq-eqb}
+use lib.Dec.{leb, eqb}
+use lib.ListN.{length, take, replicate, length-replicate}
+use lib.Seq.{length-take-le}
+use Rattle.model.specs.Records.{Totals}
+use Rattle.model.specs.Totals.{clearedTotals, totalsAfter}
+use Rattle.ternary.specs.Sizes.{keySize}
+use Rattle.buffers.specs.Parts.{spelled}
+use Rattle.records.specs.Layout.{outcomeSize, slotSize, mostSlots, mostPackets}
+use Rattle.records.specs.Traces.{packetCount}
+use Rattle.checks.specs.Refusals.{orElse}
+use Rattle.checks.specs.declared.refusal.Refusal.{Refusal}
+use Rattle.slots.specs.Refusals.{slotsRefusal, WholeSlots}
+use Rattle.slots.proofs.FitLaws.{slots-accepted}
+use Rattle.totals.specs.Sums.{asTotals, totalsFit}
+use Rattle.policy.specs.Refusals.{policyRefusal}
+use Rattle.trace.specs.Refusals.{traceRefusal, endsRefusal, runRefusal}
+use Rattle.trace.specs.Runs.{RunIs}
+use Rattle.trace.specs.declared.RunAnswer.{RunAnswer}
+use Rattle.trace.specs.declared.RunAnswer.the-variants.{Refused, Packets}
+use Rattle.trace.specs.declared.Ran.{Ran}
+use Rattle.runs.specs.Calls.{Call, Made}
+use Rattle.runs.proofs.Accepted.{AcceptedRun, accepted-run, refused-by, read-back}
+use Rattle.replay.specs.Files.{mostTraceBytes}
+use Rattle.lines.specs.Printed.{outcomeLine}
+use Rattle.printed.specs.Text.{clearedEnd, callRefusal, linesIn, recorded, outcomesFrom, runText, textFor, ranText, packetsOf, RanCleared}
+
+-- the first m of k zeros
+pub take-zeros : (m k : ℕ) → m ≤ k → take {A = ℕ} m (replicate k 0) ≡ replicate m 0
+take-zeros zero k l = refl
+take-zeros (suc m) zero l = absurd (omega arith)
+take-zeros (suc m) (suc k) l = ap (λ (xs : List ℕ). 0 ∷ xs) (take-zeros m k (le-of-suc-le-suc l))
+
+-- a part of an array whose bytes are all x is as long as it says
+pub part-long : (m k x : ℕ) → m ≤ k → m ≡ length {A = ℕ} (take m (replicate k x))
+part-long m k x l = sym (length-take-le m (replicate k x) (rw (length-replicate {A = ℕ} k x) l))
+
+or-none : (o : Option Refusal) → orElse o none ≡ o
+or-none (some r) = refl
+or-none none = refl
+
+-- room for every outcome
+abbrev pub outputRoom : ℕ
+outputRoom = outcomeSize * mostPackets
+
+module _ (n : ℕ) (some-there : 1 ≤ n) (few-there : n ≤ mostSlots) where
+  end-long : length (clearedEnd n) ≡ slotSize keySize * n
+  end-long = length-replicate (slotSize keySize * n) 0
+
+  end-accepted : slotsRefusal (clearedEnd n) ≡ none
+  end-accepted =
+      slots-accepted (clearedEnd n) .1
+      (record { whole = omega (arith, end-long); some-there = omega (arith, end-long); few-there = omega (arith, end-long) })
+
+  ends-accepted : endsRefusal (clearedEnd n) (clearedEnd n) ≡ none
+  unfolding endsRefusal
+  ends-accepted = rw (end-accepted, eq-eqb (length (clearedEnd n)) (length (clearedEnd n)) refl)
+
+  -- neither the ends, nor the totals, nor the output's room can refuse it
+  pub call-refusal : (policy trace : List ℕ) → length trace ≤ mostTraceBytes
+      → runRefusal policy trace (clearedEnd n) (clearedEnd n) outputRoom clearedTotals ≡ callRefusal policy trace
+  unfolding runRefusal callRefusal totalsFit
+  call-refusal policy trace l =
+      let room : outcomeSize * packetCount keySize trace ≤ outputRoom = omega arith in
+      rw (ends-accepted, le-leb (outcomeSize * packetCount keySize trace) outputRoom room, or-none (traceRefusal trace))
+
+-- what is known of a run from cleared ends, whose output's records were out
+module _ (n : ℕ) (some-there : 1 ≤ n) (few-there : n ≤ mostSlots) (policy trace : List ℕ) (short : length trace ≤ mostTraceBytes)
+    {table keeper out : List ℕ} {ran : Ran} {table′ keeper′ out′ : List ℕ}
+    (table-cleared : table ≡ clearedEnd n) (keeper-cleared : keeper ≡ clearedEnd n)
+    (room : length out ≡ outputRoom) (is : RunIs policy trace table keeper out clearedTotals ran table′ keeper′ out′) where
+  abbrev call : Call
+  call =
+      record {
+        policy = policy;
+        trace = trace;
+        table = clearedEnd n;
+        keeper = clearedEnd n;
+        out = out;
+        ran = ran;
+        table′ = table′;
+        keeper′ = keeper′;
+        out′ = out′;
+      }
+
+  made : Made clearedTotals call
+  made = rw (table-cleared, keeper-cleared) at is
+
+  refused-same : runRefusal policy trace (clearedEnd n) (clearedEnd n) (length out) clearedTotals ≡ callRefusal policy trace
+  refused-same = rw room (call-refusal n some-there few-there policy trace short)
+
+  pub cleared-refused : {r : Refusal} → ran .answer ≡ Refused r → callRefusal policy trace ≡ some r
+  cleared-refused e = sym refused-same ∙ refused-by clearedTotals call made e
+
+  module _ {k : ℕ} (e : ran .answer ≡ Packets k) where
+    accepted : AcceptedRun clearedTotals call k
+    accepted = accepted-run clearedTotals call made e
+
+    pub cleared-fine : callRefusal policy trace ≡ none
+    cleared-fine = sym refused-same ∙ accepted .fine
+
+    pub cleared-few : k ≤ mostPackets
+    cleared-few = omega (arith, accepted .count)
+
+    pub cleared-lines : linesIn k out′ ≡ spelled outcomeLine (map recorded (outcomesFrom n policy trace))
+    unfolding linesIn
+    cleared-lines = ap (spelled outcomeLine) (read-back accepted)
+
+    pub cleared-totals : asTotals (ran .totals) ≡ totalsAfter clearedTotals (outcomesFrom n policy trace)
+    cleared-totals = accepted .sums
+
+  pub ran-cleared : RanCleared n policy trace ran out′
+  unfolding runText
+  ran-cleared = go (ran .answer) refl
+    where
+      go : (a : RunAnswer) → ran .answer ≡ a → RanCleared n policy trace ran out′
+      go (Refused r) e = record { text = rw (e, cleared-refused e); few = rw e (omega arith) }
+      go (Packets k) e = record { text = rw (e, cleared-fine e, cleared-lines e, cleared-totals e); few = rw e (cleared-few e) }
