@@ -1,0 +1,47 @@
+-- Laws of parts of a file of test cases. Assumes nothing.
+use mathlib.Core.Path.{_≡_, refl, sym, ap, _∙_}
+use mathlib.Core.List.{List, []}
+use Prim.Native.Nat.{ℕ, _+_, _-_, _≤_, _<_}
+use native.Mathlib.Omega.{arith}
+use borrow.Author.Tests.{leb-true, leb-false, le-leb, lt-leb}
+use lib.Dec.{leb}
+use lib.ListN.{length, take, drop}
+use lib.Seq.{take-all}
+use Rattle.model.proofs.Cases.{by-cases}
+use Rattle.buffers.specs.Numbers.{be}
+use Rattle.buffers.specs.Parts.{part}
+use Rattle.buffers.proofs.PartLaws.{part-length}
+use Rattle.cases.specs.Cases.{partIn, numberAt}
+
+-- s ends before, and it does not
+pub part-missing : (from n : ℕ) (s : List ℕ) → length s < from + n → [] ≡ partIn from n s
+unfolding partIn
+part-missing from n s l = rw (lt-leb (from + n) (length s) l)
+
+pub part-there : (from n : ℕ) (s : List ℕ) → from + n ≤ length s → part n from s ≡ partIn from n s
+unfolding partIn
+part-there from n s l = rw (le-leb (from + n) (length s) l)
+
+pub part-lent : (from n : ℕ) (s : List ℕ) → from + n ≤ length s → take (from + n - from) (drop from s) ≡ partIn from n s
+part-lent from n s l = let e : from + n - from ≡ n = omega arith in rw e (part-there from n s l)
+
+-- a number of which bytes are missing, and a whole one
+module _ {q : List ℕ} (at : ℕ) (s : List ℕ) (is : q ≡ partIn at 4 s) where
+  pub number-missing : length q < 4 → 0 ≡ numberAt at s
+  unfolding numberAt be
+  number-missing l =
+      by-cases (leb (at + 4) (length s))
+      (λ e.
+      let there = part-there at 4 s (leb-true (at + 4) (length s) e) in
+      absurd (omega (arith, ap length (is ∙ sym there), part-length 4 at s (leb-true (at + 4) (length s) e))))
+      (λ e. rw (← part-missing at 4 s (leb-false (at + 4) (length s) e)))
+
+  pub number-there : 4 ≤ length q → be (part 4 0 q) ≡ numberAt at s
+  unfolding numberAt
+  number-there l =
+      by-cases (leb (at + 4) (length s))
+      (λ e.
+      let h = leb-true (at + 4) (length s) e in
+      let short : length q ≡ 4 = ap length (is ∙ sym (part-there at 4 s h)) ∙ part-length 4 at s h in
+      ap be (take-all 4 q (omega arith) ∙ is))
+      (λ e. absurd (omega (arith, ap length (is ∙ sym (part-missing at 4 s (leb-false (at + 4) (length s) e))))))

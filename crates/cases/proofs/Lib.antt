@@ -1,0 +1,2 @@
+-- Laws of parts of a file of test cases.
+pub mod CaseLaws

@@ -1,0 +1,2 @@
+-- Parts of a file of test cases.
+pub mod Cases

@@ -1,0 +1,97 @@
+// The program: reads slots.txt, policy.bin and trace.bin from its folder, and prints what they come to.
+use libc::STDOUT_FILENO;
+use records::layout;
+ghost use Prim.Native.Nat.{_≤_};
+ghost use lib.ListN.{length};
+ghost use Rattle.printed.specs.Text.{mostText};
+ghost use Rattle.io.specs.Counts.{Counts};
+
+// One byte more than each file may have: a longer file is seen to be longer, and an endless one is read no further.
+const SLOTS_ROOM: usize = 5;
+
+const POLICY_ROOM: usize = layout::RULE_SIZE * layout::MOST_RULES + 1;
+
+const TRACE_ROOM: usize = layout::TRACE_SIZE * layout::MOST_PACKETS + 1;
+
+// What one read gave: whether it worked, and how many bytes came, 0 at the file's end.
+struct Got {
+    worked: bool,
+    count: usize,
+}
+
+// One read into a part.
+fn read_once(fd: i32, part: &mut [u8]) -> Got
+    ensures { λ r. ⌜ r .count ≤ length (now (part .entry)) ⌝ }
+{
+    let got = libc::read(fd, part);
+    if got < 0 {
+        return Got {
+            worked: false,
+            count: 0,
+        };
+    }
+    let n = io::count(got, part);
+    Got {
+        worked: true,
+        count: n,
+    }
+}
+
+// Reads to the file's end or until buf is full, and gives how many bytes came; 0 where a read fails, also half way.
+fn read_all(fd: i32, buf: &mut [u8]) -> usize
+    ensures { λ r. ⌜ Counts r (now (buf .exit)) ⌝ }
+{
+    let mut at: usize = 0;
+    while at < buf.len() {
+        let got = read_once(fd, &mut buf[at..]);
+        if !got.worked {
+            return 0;
+        }
+        let n = got.count;
+        if n == 0 {
+            return at;
+        }
+        at += n;
+    }
+    at
+}
+
+// The bytes of a file; one that can't be opened or read counts as empty.
+fn read_file(path: &[u8], buf: &mut [u8]) -> usize
+    ensures { λ r. ⌜ Counts r (now (buf .exit)) ⌝ }
+{
+    let fd = os::open_read(path);
+    if fd < 0 {
+        return 0;
+    }
+    let n = read_all(fd, buf);
+    libc::close(fd);
+    n
+}
+
+// Prints what the files come to, by way of `text`. That it can't be written is told on standard error.
+fn print_in(slots: &[u8], policy: &[u8], trace: &[u8], text: &mut [u8])
+    requires { ⌜ mostText ≤ length (now text) ⌝ }
+{
+    let n = printed::text(slots, policy, trace, text);
+    if !io::write_all(STDOUT_FILENO, &text[..n]) {
+        os::fail(b"standard output");
+    }
+}
+
+// The same, with room for every text.
+fn print(slots: &[u8], policy: &[u8], trace: &[u8]) {
+    let mut text = [0u8; printed::MOST_TEXT];
+    print_in(slots, policy, trace, &mut text);
+}
+
+// Runs the program in the folder that it was started in.
+pub fn run_here() {
+    let mut slots = [0u8; SLOTS_ROOM];
+    let mut policy = [0u8; POLICY_ROOM];
+    let mut trace = [0u8; TRACE_ROOM];
+    let s = read_file(b"slots.txt", &mut slots);
+    let p = read_file(b"policy.bin", &mut policy);
+    let t = read_file(b"trace.bin", &mut trace);
+    print(&slots[..s], &policy[..p], &trace[..t]);
+}

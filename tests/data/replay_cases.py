@@ -1,0 +1,107 @@
+"""The files of the programs that replay, and cases for what they print, with what a plain reading of the rules prints.
+
+Two files ask the cases: parts.bin, in which each slots.txt, policy.bin and trace.bin is a part, and cases.bin, a record for each case: label's
+length 1, zero 3, then six numbers of four bytes: where slots.txt begins and how long it is, and the same of policy.bin and trace.bin; then the
+label.
+"""
+from policies import SMALL, key, top
+from program import MOST_POLICY_BYTES, MOST_TRACE_BYTES, printed
+from rules import policy_bytes, rule_bytes
+
+POLICY = policy_bytes(SMALL)
+FLAWED = rule_bytes(SMALL[1], spare=1)
+
+
+def packets(*texts):
+    return b''.join(key(text) + bytes(3) for text in texts)
+
+
+# the printed example
+TRACE = packets('1000', '0000', '1010', '1001', '1111', '0100')
+
+# a text that gives no number of slots
+BAD_SLOTS = [b'', b'\n', b'0\n', b'00\n', b'01\n', b'002\n', b'257\n', b'260\n', b'300\n', b'999\n', b'1000\n', b'2560\n', b'65536\n', b'2',
+             b'256', b'2\n\n', b'2\r\n', b'2\r', b'2 \n', b' 2\n', b'+2\n', b'-2\n', b'2\0', b'2\n2\n', b'\n2', b'/\n', b':\n', b'1/\n', b'1:\n',
+             b'/1\n', b':1\n', b'1/0\n', b'10:\n', b'1a\n', b'0x2\n', b'1,0\n', b'two\n', '\u0662\n'.encode(), b'\xb2\n']
+SLOTS = [1, 2, 3, 9, 10, 11, 19, 99, 100, 101, 199, 200, 249, 250, 255, 256]
+
+
+class Cases:
+    def __init__(self):
+        self.parts, self.cases, self.text = b'', b'', ''
+
+    def place(self, data):
+        """Where these bytes begin in parts.bin."""
+        if data not in self.parts:
+            self.parts += data
+        return self.parts.index(data)
+
+    def ask(self, label, slots, policy=POLICY, trace=TRACE):
+        numbers = [n for data in (slots, policy, trace) for n in (self.place(data), len(data))]
+        self.cases += bytes([len(label), 0, 0, 0]) + b''.join(n.to_bytes(4, 'big') for n in numbers) + label.encode()
+        self.text += f'{label}\n{printed(slots, policy, trace)}'
+
+
+def large(cases):
+    """A policy file and a trace file at their limits and one byte over, of flawed records that no other test may see first."""
+    policy, trace = FLAWED * 1024 + b'\1', bytes([1] * (MOST_TRACE_BYTES + 1))
+    cases.place(policy), cases.place(trace)
+    good, bad = b'2\n', b'257\n'
+    over, full = policy, policy[:MOST_POLICY_BYTES]
+    long, most = trace, trace[:MOST_TRACE_BYTES]
+    for label, slots, p, t in [('4.2.2', bad, over, long), ('2.2', good, over, long), ('2.policy', good, over, TRACE), ('2.trace', good, POLICY, long),
+                               ('2.trace.flawed', good, FLAWED, long), ('full', good, full, most), ('full.trace', good, POLICY, most),
+                               ('ragged.most', good, full[:-1], most)]:
+        cases.ask(f'large.{label}', slots, p, t)
+
+
+def refusals(cases):
+    for i, text in enumerate(BAD_SLOTS):
+        cases.ask(f'slots.bad.{i}', text)
+    good, short = b'2\n', TRACE[:-1]
+    spare = TRACE[:32] + packets('1111')[:15] + b'\1' + TRACE[:16]
+    for label, p, t in [('1.policy', POLICY[:-1], spare), ('1.trace', POLICY, short), ('3.policy', POLICY + FLAWED, short),
+                        ('3.first', FLAWED + POLICY + FLAWED, TRACE), ('3.trace', POLICY, spare), ('3.last', POLICY, TRACE + spare),
+                        ('1.both', POLICY[:-1], short), ('1.empty', b'\0', b'')]:
+        cases.ask(f'refuse.{label}', good, p, t)
+
+
+def runs(cases):
+    for n in SLOTS:
+        cases.ask(f'slots.{n}', f'{n}\n'.encode())
+    cases.ask('nothing', b'1\n', b'', b'')
+    cases.ask('no.policy', b'3\n', b'')
+    cases.ask('no.trace', b'3\n', POLICY, b'')
+    # an action of 65,535 is a number; only the last three numbers can be a dash
+    cases.ask('action', b'1\n', policy_bytes([top('1', 1, 65535), top('01', 1, 0), top('001', 1, 65534)]), packets('1', '01', '001', '0', '1'))
+    # the last of 1,024 rules, evicted and written again
+    many = policy_bytes([top(f'{i:010b}', i, 60000 + i) for i in range(1024)])
+    cases.ask('many', b'2\n', many, packets(*(f'{i:010b}' for i in (1023, 0, 1023, 512, 0, 7, 1023, 1023, 99))))
+    # more keys than slots, again and again: evictions by fewest hits, smallest sequence, lowest slot
+    every = [f'{i:04b}' for i in range(16)]
+    cases.ask('again', b'4\n', many, packets(*(every * 3 + every[::-1] * 2)))
+    cases.ask('most', b'8\n', POLICY, packets(*every) * 256)
+
+
+def program(name, files, text):
+    return {**{f'crates/replay_{name}/data/{path}': data for path, data in files.items()}, f'crates/replay_{name}/stdout': text.encode()}
+
+
+def make():
+    """The files of the programs, by their paths in the repository."""
+    cases = Cases()
+    large(cases)
+    refusals(cases)
+    runs(cases)
+    two = b'2\n'
+    example = {'policy.bin': POLICY, 'trace.bin': TRACE, 'slots.txt': two}
+    over = bytes(MOST_POLICY_BYTES + 1), bytes(MOST_TRACE_BYTES + 1)
+    return {**{f'examples/small/{path}': data for path, data in example.items()},
+            **program('example', example, printed(two, POLICY, TRACE)),
+            **program('missing', {}, printed(b'', b'', b'')),
+            # a folder in the place of policy.bin, which counts as empty
+            **program('folder', {'policy.bin/kept': POLICY, 'trace.bin': TRACE, 'slots.txt': two}, printed(two, b'', TRACE)),
+            **program('large_policy', {'policy.bin': over[0], 'slots.txt': two}, printed(two, over[0], b'')),
+            **program('large_trace', {'policy.bin': POLICY, 'trace.bin': over[1], 'slots.txt': two}, printed(two, POLICY, over[1])),
+            'crates/replay_test/data/parts.bin': cases.parts, 'crates/replay_test/data/cases.bin': cases.cases,
+            'crates/replay_test/stdout': cases.text.encode()}
