@@ -27,6 +27,13 @@ module _ (f : ℕ → Bool) where
   keep-last [] x = refl
   keep-last (y ∷ ys) x = by-cases (f y) (λ t. rw (t, keep-last ys x)) (λ t. rw (t, keep-last ys x))
 
+  -- how many are kept of one more
+  pub length-last : (xs : List ℕ) (x : ℕ) → length (keep f (xs ++ (x ∷ []))) ≡ length (keep f xs) + cond (f x) 1 0
+  length-last xs x =
+      ap length (keep-last xs x)
+      ∙ length-append (keep f xs) (cond (f x) (x ∷ []) [])
+      ∙ by-cases (f x) (λ t. rw t) (λ t. rw t)
+
   -- one item more: it is kept, or it is not
   module _ (items : List ℕ) (i : ℕ) (l : i < length items) where
     keep-next : keep f (take (i + 1) items) ≡ keep f (take i items) ++ cond (f (getD items i 0)) (getD items i 0 ∷ []) []

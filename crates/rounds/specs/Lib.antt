@@ -1,3 +1,4 @@
 -- What the contracts on the rounds cite, above the model.
 pub mod Ready
 pub mod Structs
+pub mod Columns

@@ -1,9 +1,11 @@
 // The rounds of isolating: each fixes the position that separates the most of the dependents that stand.
+use crate::separate::column_of;
 use crate::separate::left;
-use crate::separate::separated;
+use crate::separate::marked;
 use cover::dependents::dependents_of;
 use cover::numbers::Numbers;
 use records::layout;
+use records::layout::KEY_SIZE;
 use records::row::row_at;
 use ternary::Pattern;
 ghost use mathlib.Core.Path.{_≡_};
@@ -21,8 +23,8 @@ mod separate;
 
 // A rule isolated for a key: the pattern, the number of fixed bits, and the wildcard bits left.
 pub struct Isolated {
-    pub value: [u8; layout::KEY_SIZE],
-    pub mask: [u8; layout::KEY_SIZE],
+    pub value: [u8; KEY_SIZE],
+    pub mask: [u8; KEY_SIZE],
     pub fixed: usize,
     pub wildcards: usize,
 }
@@ -53,12 +55,7 @@ fn with_counts(pattern: Pattern, fixed: usize) -> Isolated
 }
 
 // The rule isolated for the key, whose best it is. `deps` are the rule's dependents, which all stand at first.
-pub fn isolate_rule(
-    policy: &[u8],
-    key: [u8; layout::KEY_SIZE],
-    number: usize,
-    deps: Numbers,
-) -> Isolated
+pub fn isolate_rule(policy: &[u8], key: [u8; KEY_SIZE], number: usize, deps: Numbers) -> Isolated
     requires { ⌜ (number < ruleCount keySize (now policy)) × (best positions (rules keySize (now policy)) key ≡ some number) ×
         Lists (deps .items) (deps .count) (dependents positions (rules keySize (now policy)) number) ⌝ }
     ensures { λ r. ⌜ asIsolated r ≡ isolate positions (rules keySize (now (policy .entry))) key number ⌝ }
@@ -73,11 +70,18 @@ pub fn isolate_rule(
         let mut best: usize = 0;
         let mut most: usize = 0;
         let mut p: usize = 0;
+        let mut bytes = [0; layout::MOST_RULES];
+        let mut count: usize = 0;
         let chosen = loop {
             if p == ternary::POSITIONS {
                 break best;
             }
-            let n = separated(policy, key, number, p, standing);
+            if p % 8 == 0 {
+                let column = column_of(policy, key, number, p / 8, standing);
+                bytes = column.bytes;
+                count = column.count;
+            }
+            let n = marked(&bytes, count, p % 8);
             if most < n {
                 most = n;
                 best = p;

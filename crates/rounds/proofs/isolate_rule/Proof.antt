@@ -2,7 +2,7 @@
 use borrow.Author.Needs.{needs}
 use mathlib.Core.Path.{_≡_, _∙_}
 use mathlib.Core.Logic.{⊎-elim}
-use Prim.Native.Nat.{_≤_, _-_}
+use Prim.Native.Nat.{_≤_, _-_, _/_}
 use native.Mathlib.Omega.{arith}
 use lib.ListN.{length, take}
 use Rattle.model.specs.Below.{keep}
@@ -12,17 +12,20 @@ use Rattle.records.specs.Layout.{mostRules}
 use Rattle.records.specs.Rules.{ruleCount, rules}
 use Rattle.records.proofs.RuleLaws.{rule-count}
 use Rattle.cover.specs.Numbers.{Under}
+use Rattle.rounds.specs.Columns.{Marks}
+use Rattle.rounds.proofs.ColumnLaws.{AtHand, at-first, at-next, weight-is}
 use Rattle.rounds.proofs.RoundsLaws.{Scan, scan-none, scan-taken, scan-kept, scan-chosen}
 use Rattle.rounds.proofs.RoundsLaws.{Going, going-start, going-under, going-room, going-stop, going-less, going-next}
 use Rattle.rounds.proofs.isolate_rule.Statement.{statement}
 use Rattle.rounds.proofs.isolate_rule.Tie as tie
 
 abbrev Inv-loop : tie.InvT-loop
-Inv-loop policy key number pattern standing fixed best₀ most₀ p₀ best most p =
+Inv-loop policy key number pattern standing fixed best₀ most₀ p₀ bytes₀ count₀ best most p bytes count =
     Scan (λ q. length (keep (separates (rules keySize policy) key number q) (take (standing .count) (standing .items)))) positions p best most
+    × AtHand (separates (rules keySize policy) key number) p (take (standing .count) (standing .items)) bytes count
 
 abbrev μ-loop : tie.MeasureT-loop
-μ-loop policy key number pattern standing fixed best₀ most₀ p₀ best most p = positions - p
+μ-loop policy key number pattern standing fixed best₀ most₀ p₀ bytes₀ count₀ best most p bytes count = positions - p
 
 abbrev Inv-rounds : tie.InvT-rounds
 Inv-rounds policy key number pattern₀ standing₀ fixed₀ pattern standing fixed =
@@ -50,29 +53,55 @@ rounds-holds c =
     )
 
 loop-holds : tie.Need-loop-holds Inv-loop μ-loop Inv-rounds μ-rounds
-loop-holds c = scan-none _ _ (search needs)
+loop-holds c = (scan-none _ _ (search needs), at-first _ _ _ _)
 
-separated-requires : tie.Need-separated-requires Inv-loop μ-loop Inv-rounds μ-rounds
-separated-requires c κs =
-    let r = c .before .before .before .before in
+column-of-requires : tie.Need-column-of-requires Inv-loop μ-loop Inv-rounds μ-rounds
+column-of-requires c κs =
+    let r = c .before .before .before .before .before in
     (r .before .before .before .pre .0, omega arith, under r)
+
+-- the column is that of the position's byte
+column : (c : tie.Joined3 Inv-loop μ-loop Inv-rounds μ-rounds)
+    → let r = c .before .before .before .before .before in
+    let a = r .before .before .before .args in
+    Marks (separates (rules keySize (a .policy .now)) (a .key) (a .number)) (c .before .before .loop .p / 8)
+    (take (r .rounds .standing .count) (r .rounds .standing .items)) (c .if3 .bytes) (c .if3 .count)
+column c =
+    ⊎-elim
+    (λ w. rw (w .3, w .4) (w .1 .ensures))
+    (λ w. rw (w .1, w .2) (c .before .before .loop .inv .1 .inside (w .0 .left)))
+    (c .if3 .came)
+
+slice-aggregate-marked : tie.Need-slice-aggregate-marked Inv-loop μ-loop Inv-rounds μ-rounds
+slice-aggregate-marked c = let h = column (c .before) .long in search needs
+
+marked-requires : tie.Need-marked-requires Inv-loop μ-loop Inv-rounds μ-rounds
+marked-requires c κs = (column (c .before) .few, omega arith)
 
 loop-again : tie.Need-loop-again Inv-loop μ-loop Inv-rounds μ-rounds
 loop-again c =
-    let k = c .before .before .before in
+    let j = c .before .before .before in
+    let k = j .before .before in
+    let weight = weight-is _ _ _ _ _ (column j) _ (c .before .marked .ensures) in
     ⊎-elim
-    (λ w. rw (w .1, w .2) (scan-taken _ _ _ _ _ _ (k .loop .inv) (omega arith) (c .before .separated .ensures) (w .0 .taken)))
-    (λ w. rw (w .1, w .2) (scan-kept _ _ _ _ _ _ (k .loop .inv) (omega arith) (c .before .separated .ensures) (w .0 .left)))
-    (c .if3 .came)
+    (λ w. rw (w .1, w .2) (
+      scan-taken _ _ _ _ _ _ (k .loop .inv .0) (omega arith) weight (w .0 .taken),
+      at-next _ _ _ _ _ (column j),
+    ))
+    (λ w. rw (w .1, w .2) (
+      scan-kept _ _ _ _ _ _ (k .loop .inv .0) (omega arith) weight (w .0 .left),
+      at-next _ _ _ _ _ (column j),
+    ))
+    (c .if4 .came)
 
 fix-bit-requires : tie.Need-fix-bit-requires Inv-loop μ-loop Inv-rounds μ-rounds
-fix-bit-requires c κs = c .before .loop .inv .within
+fix-bit-requires c κs = c .before .loop .inv .0 .within
 
 left-requires : tie.Need-left-requires Inv-loop μ-loop Inv-rounds μ-rounds
 left-requires c κs =
     let k = c .before .before in
     let r = k .before .before .before in
-    (r .before .before .before .pre .0, k .loop .inv .within, under r)
+    (r .before .before .before .pre .0, k .loop .inv .0 .within, under r)
 
 add-fixed : tie.Need-add-fixed Inv-loop μ-loop Inv-rounds μ-rounds
 add-fixed c =
@@ -85,7 +114,7 @@ rounds-less c =
     let k = c .before .before .before in
     let r = k .before .before .before in
     going-less _ _ _ _ _ _ _ _ _ _ (r .rounds .inv .1) (r .rounds .inv .2) _
-    (scan-chosen _ _ _ _ _ _ (k .loop .inv) (c .before .before .if2 .taken)) _ _ (c .left .ensures) (k .before .if1 .left)
+    (scan-chosen _ _ _ _ _ _ (k .loop .inv .0) (c .before .before .if2 .taken)) _ _ (c .left .ensures) (k .before .if1 .left)
 
 rounds-again : tie.Need-rounds-again Inv-loop μ-loop Inv-rounds μ-rounds
 rounds-again c =
@@ -94,7 +123,7 @@ rounds-again c =
       r .rounds .inv .0,
       c .left .ensures .few,
       going-next _ _ _ _ _ _ _ _ _ _ (r .rounds .inv .1) (r .rounds .inv .2) _
-          (scan-chosen _ _ _ _ _ _ (k .loop .inv) (c .before .before .if2 .taken)) _ _ (c .left .ensures) (k .before .if1 .left)
+          (scan-chosen _ _ _ _ _ _ (k .loop .inv .0) (c .before .before .if2 .taken)) _ _ (c .left .ensures) (k .before .if1 .left)
           _ _ (c .before .fix-bit .ensures .value-put) (c .before .fix-bit .ensures .mask-put),
     )
 
@@ -114,7 +143,9 @@ isolate-rule-spec =
     (λ c. search needs)
     rounds-holds
     loop-holds
-    separated-requires
+    column-of-requires
+    slice-aggregate-marked
+    marked-requires
     (λ c. search needs)
     (λ c. search needs)
     loop-again
