@@ -1,6 +1,7 @@
 // The program: reads slots.txt, policy.bin and trace.bin from its folder, and prints what they come to.
 use libc::STDOUT_FILENO;
 use records::layout;
+ghost use mathlib.Core.Path.{_≡_};
 ghost use Prim.Native.Nat.{_≤_};
 ghost use lib.ListN.{length};
 ghost use Rattle.printed.specs.Text.{mostText};
@@ -79,9 +80,16 @@ fn print_in(slots: &[u8], policy: &[u8], trace: &[u8], text: &mut [u8])
     }
 }
 
+// Room for every text.
+fn text_room() -> [u8; printed::MOST_TEXT]
+    ensures { λ r. ⌜ mostText ≡ length r ⌝ }
+{
+    [0; printed::MOST_TEXT]
+}
+
 // The same, with room for every text.
 fn print(slots: &[u8], policy: &[u8], trace: &[u8]) {
-    let mut text = [0u8; printed::MOST_TEXT];
+    let mut text = text_room();
     print_in(slots, policy, trace, &mut text);
 }
 

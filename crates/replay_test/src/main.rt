@@ -3,6 +3,7 @@
 use cases::part;
 use cases::part_of;
 use libc::STDOUT_FILENO;
+ghost use mathlib.Core.Path.{_≡_};
 ghost use Prim.Native.Nat.{_≤_, _<_};
 ghost use lib.ListN.{length};
 ghost use Rattle.printed.specs.Text.{mostText};
@@ -31,9 +32,16 @@ fn ask_in(question: &[u8], parts: &[u8], out: &mut [u8])
     say(&out[..n]);
 }
 
+// Room for every text, none of it zero.
+fn room() -> [u8; printed::MOST_TEXT]
+    ensures { λ r. ⌜ mostText ≡ length r ⌝ }
+{
+    [238; printed::MOST_TEXT]
+}
+
 // One case: its record, and its label's length.
 fn ask(question: &[u8], parts: &[u8], label: usize) {
-    let mut out = [238u8; printed::MOST_TEXT];
+    let mut out = room();
     say(part(question, HEADER, label));
     say(b"\n");
     ask_in(question, parts, &mut out);
