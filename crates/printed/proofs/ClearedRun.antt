@@ -31,7 +31,8 @@ use Rattle.runs.specs.Calls.{Call, Made}
 use Rattle.runs.proofs.Accepted.{AcceptedRun, accepted-run, refused-by, read-back}
 use Rattle.replay.specs.Files.{mostTraceBytes}
 use Rattle.lines.specs.Printed.{outcomeLine}
-use Rattle.printed.specs.Text.{clearedEnd, callRefusal, linesIn, recorded, outcomesFrom, runText, textFor, ranText, packetsOf, RanCleared}
+use Rattle.listing.specs.Listing.{linesIn}
+use Rattle.printed.specs.Text.{clearedEnd, callRefusal, recorded, outcomesFrom, runText, textFor, ranText, packetsOf, RanCleared}
 
 -- the first m of k zeros
 pub take-zeros : (m k : ℕ) → m ≤ k → take {A = ℕ} m (replicate k 0) ≡ replicate m 0

@@ -1,5 +1,3 @@
 -- Laws of what is printed.
-pub mod TextLaws
 pub mod RanLaws
 pub mod ClearedRun
-pub mod RecordLines

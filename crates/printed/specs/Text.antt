@@ -3,12 +3,12 @@ use mathlib.Core.Path.{_≡_}
 use mathlib.Core.List.{List, _++_, map}
 use mathlib.Core.Option.{Option, none, some}
 use Prim.Native.Nat.{ℕ, _+_, _*_, _≤_}
-use lib.ListN.{length, replicate}
+use lib.ListN.{replicate}
 use Rattle.model.specs.Records.{Outcome, Totals}
 use Rattle.model.specs.Totals.{clearedTotals, totalsAfter}
 use Rattle.ternary.specs.Sizes.{keySize}
-use Rattle.buffers.specs.Parts.{splice, recordsIn, spelled}
-use Rattle.records.specs.Layout.{slotSize, outcomeSize, mostPackets}
+use Rattle.buffers.specs.Parts.{spelled}
+use Rattle.records.specs.Layout.{slotSize, mostPackets}
 use Rattle.checks.specs.Refusals.{orElse}
 use Rattle.checks.specs.declared.refusal.Refusal.{Refusal}
 use Rattle.outcomes.specs.Outcomes.{decodeOutcome, encodeOutcome}
@@ -21,6 +21,7 @@ use Rattle.trace.specs.declared.RunAnswer.the-variants.{Refused, Packets}
 use Rattle.trace.specs.declared.Ran.{Ran}
 use Rattle.lines.specs.Line.{lineSize}
 use Rattle.lines.specs.Printed.{outcomeLine, totalsLine, refusalLine}
+use Rattle.listing.specs.Listing.{linesIn}
 use Rattle.replay.specs.Slots.{slotsIn}
 use Rattle.replay.specs.Files.{fileRefusal}
 
@@ -54,10 +55,6 @@ unfoldable pub replayText : List ℕ → List ℕ → List ℕ → List ℕ
 replayText slots policy trace =
     textFor (orElse (fileRefusal slots policy trace) (callRefusal policy trace)) (outcomesFrom (slotsIn slots) policy trace)
 
--- the lines of the first n records of a run's output
-unfoldable pub linesIn : ℕ → List ℕ → List ℕ
-linesIn n records = spelled outcomeLine (recordsIn outcomeSize decodeOutcome n records)
-
 -- what is printed of a run that answered this, with these totals, and whose output is `records`
 abbrev pub ranText : RunAnswer → Totals → List ℕ → List ℕ
 ranText (Refused r) t records = refusalLine (r .number) (r .place)
@@ -72,11 +69,6 @@ packetsOf (Packets n) = n
 pub record RanCleared (n : ℕ) (policy trace : List ℕ) (ran : Ran) (records : List ℕ) : Type 0 where
   pub text : ranText (ran .answer) (asTotals (ran .totals)) records ≡ textFor (callRefusal policy trace) (outcomesFrom n policy trace)
   pub few : packetsOf (ran .answer) ≤ mostPackets
-
--- the text went to the output's start, no other byte changed, and its length is given
-pub record TextPut (text out : List ℕ) (r : ℕ) (out′ : List ℕ) : Type 0 where
-  pub whole : out′ ≡ splice 0 text out
-  pub count : r ≡ length text
 
 -- no text is longer
 abbrev pub mostText : ℕ

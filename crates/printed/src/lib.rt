@@ -8,46 +8,19 @@ use totals::Totals;
 use trace::Ran;
 use trace::RunAnswer;
 ghost use mathlib.Core.Path.{_≡_};
-ghost use Prim.Native.Nat.{_+_, _*_, _≤_};
+ghost use Prim.Native.Nat.{_*_, _≤_};
 ghost use lib.ListN.{length};
-ghost use Rattle.buffers.specs.Parts.{splice};
 ghost use Rattle.records.specs.Layout.{outcomeSize, mostPackets, mostSlots};
 ghost use Rattle.totals.specs.Sums.{asTotals};
-ghost use Rattle.lines.specs.Line.{lineSize, textOf, Says};
+ghost use Rattle.lines.specs.Line.{Says};
 ghost use Rattle.lines.specs.Printed.{totalsLine};
+ghost use Rattle.listing.specs.Listing.{TextPut};
 ghost use Rattle.replay.specs.Files.{mostTraceBytes};
-ghost use Rattle.printed.specs.Text.{linesIn, ranText, packetsOf, mostText, TextPut, RanCleared};
+ghost use Rattle.printed.specs.Text.{ranText, packetsOf, mostText, RanCleared};
 ghost use Rattle.printed.specs.Text.{outcomesFrom, callRefusal, textFor, replayText};
 
 // The text of every packet and of the totals is at most so long.
 pub const MOST_TEXT: usize = LINE_SIZE * (layout::MOST_PACKETS + 1);
-
-// Writes a line from `at` on, and gives where it ends; every other byte stays.
-fn put_line(line: Line, out: &mut [u8], at: usize) -> usize
-    requires { ⌜ (line .at ≤ lineSize) × (at + lineSize ≤ length (now out)) ⌝ }
-    ensures { λ r. ⌜ (now (out .exit) ≡ splice at (textOf line) (now (out .entry))) × (r ≡ at + length (textOf line)) ⌝ }
-{
-    let bytes = line.bytes;
-    let from = line.at;
-    buffers::put_bytes(out, at, &bytes[from..]);
-    at + (LINE_SIZE - from)
-}
-
-// Writes the lines of the first n records of a run's output to the start of `out`, and gives where they end; every other byte stays.
-fn put_outcomes(records: &[u8], n: usize, out: &mut [u8]) -> usize
-    requires { ⌜ (n ≤ mostPackets) × (outcomeSize * n ≤ length (now records)) × (lineSize * n ≤ length (now out)) ⌝ }
-    ensures { λ r. ⌜ TextPut (linesIn n (now (records .entry))) (now (out .entry)) r (now (out .exit)) × (r ≤ lineSize * n) ⌝ }
-{
-    let mut at = 0;
-    let mut i = 0;
-    while i < n {
-        let from = layout::OUTCOME_SIZE * i;
-        let line = lines::outcome_line(&records[from..from + layout::OUTCOME_SIZE]);
-        at = put_line(line, out, at);
-        i += 1;
-    }
-    at
-}
 
 // The line of a run's totals.
 fn totals_line(t: Totals) -> Line
@@ -63,10 +36,10 @@ fn put_ran(ran: Ran, records: &[u8], out: &mut [u8]) -> usize
 {
     let answer = ran.answer;
     match answer {
-        RunAnswer::Refused(refusal) => put_line(lines::refusal_line(refusal), out, 0),
+        RunAnswer::Refused(refusal) => listing::put_line(lines::refusal_line(refusal), out, 0),
         RunAnswer::Packets(count) => {
-            let at = put_outcomes(records, count, out);
-            put_line(totals_line(ran.totals), out, at)
+            let at = listing::put_outcomes(records, count, out);
+            listing::put_line(totals_line(ran.totals), out, at)
         }
     }
 }
@@ -113,7 +86,7 @@ pub fn text(slots: &[u8], policy: &[u8], trace: &[u8], out: &mut [u8]) -> usize
     ensures { λ r. ⌜ TextPut (replayText (now (slots .entry)) (now (policy .entry)) (now (trace .entry))) (now (out .entry)) r (now (out .exit)) ⌝ }
 {
     match replay::file_answer(slots, policy, trace) {
-        FileAnswer::Refused(refusal) => put_line(lines::refusal_line(refusal), out, 0),
+        FileAnswer::Refused(refusal) => listing::put_line(lines::refusal_line(refusal), out, 0),
         FileAnswer::Slots(n) => put_run(n, policy, trace, out),
     }
 }

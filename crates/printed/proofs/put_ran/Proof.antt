@@ -2,7 +2,8 @@
 use borrow.Author.Needs.{needs}
 use Prim.Native.Nat.{_≤_}
 use Rattle.records.specs.Layout.{mostPackets}
-use Rattle.printed.proofs.RanLaws.{line-alone, line-after, refused-put, packets-put}
+use Rattle.listing.proofs.PutLaws.{line-alone, line-after}
+use Rattle.printed.proofs.RanLaws.{refused-put, packets-put}
 use Rattle.printed.proofs.put_ran.Statement.{statement}
 use Rattle.printed.proofs.put_ran.Tie as tie
 

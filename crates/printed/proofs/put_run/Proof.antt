@@ -1,6 +1,6 @@
 -- `printed::put_run` meets its contract: what the run came to is written. Assumes nothing.
 use borrow.Author.Needs.{needs}
-use Rattle.printed.proofs.RanLaws.{same-put}
+use Rattle.listing.proofs.PutLaws.{same-put}
 use Rattle.printed.proofs.put_run.Statement.{statement}
 use Rattle.printed.proofs.put_run.Tie as tie
 

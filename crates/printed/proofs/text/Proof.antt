@@ -2,7 +2,8 @@
 use borrow.Author.Needs.{needs}
 use mathlib.Core.Path.{sym, _∙_}
 use Rattle.replay.proofs.FileLaws.{files-taken}
-use Rattle.printed.proofs.RanLaws.{line-alone, text-refused, text-run}
+use Rattle.listing.proofs.PutLaws.{line-alone}
+use Rattle.printed.proofs.RanLaws.{text-refused, text-run}
 use Rattle.printed.proofs.text.Statement.{statement}
 use Rattle.printed.proofs.text.Tie as tie
 

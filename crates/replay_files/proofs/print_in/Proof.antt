@@ -1,6 +1,6 @@
 -- `replay_files::print_in` is safe: what is written lies in the output. Assumes nothing.
 use borrow.Author.Needs.{needs}
-use Rattle.printed.proofs.RanLaws.{counts}
+use Rattle.listing.proofs.PutLaws.{counts}
 use Rattle.replay_files.proofs.print_in.Statement.{statement}
 use Rattle.replay_files.proofs.print_in.Tie as tie
 

@@ -1,6 +1,6 @@
 -- `replay_test::ask_in` is safe: what is printed lies in the output. Assumes nothing.
 use borrow.Author.Needs.{needs}
-use Rattle.printed.proofs.RanLaws.{counts}
+use Rattle.listing.proofs.PutLaws.{counts}
 use Rattle.replay_test.proofs.ask_in.Statement.{statement}
 use Rattle.replay_test.proofs.ask_in.Tie as tie
 

@@ -1,4 +1,4 @@
--- `printed::put_outcomes` meets its contract: the lines of the first i records stand at the output's start. Assumes nothing.
+-- `listing::put_outcomes` meets its contract: the lines of the first i records stand at the output's start. Assumes nothing.
 use borrow.Author.Needs.{needs}
 use mathlib.Core.Path.{_≡_}
 use Prim.Native.Nat.{_-_, _≤_}
@@ -8,10 +8,10 @@ use Rattle.buffers.specs.Parts.{recordsIn}
 use Rattle.records.specs.Layout.{outcomeSize}
 use Rattle.outcomes.specs.Outcomes.{decodeOutcome}
 use Rattle.lines.specs.Printed.{outcomeLine}
-use Rattle.printed.proofs.TextLaws.{Spelt, spelt-none}
-use Rattle.printed.proofs.RecordLines.{lent-long, lines-more, lines-all}
-use Rattle.printed.proofs.put_outcomes.Statement.{statement}
-use Rattle.printed.proofs.put_outcomes.Tie as tie
+use Rattle.listing.proofs.TextLaws.{Spelt, spelt-none}
+use Rattle.listing.proofs.RecordLines.{lent-long, lines-more, lines-all}
+use Rattle.listing.proofs.put_outcomes.Statement.{statement}
+use Rattle.listing.proofs.put_outcomes.Tie as tie
 
 abbrev Inv-loop : tie.InvT-loop
 Inv-loop records n out₀ at₀ i₀ out at i =

@@ -13,8 +13,8 @@ use Rattle.outcomes.specs.Outcomes.{decodeOutcome}
 use Rattle.lines.specs.Line.{lineSize, textOf, Says}
 use Rattle.lines.specs.Printed.{outcomeLine}
 use Rattle.lines.specs.declared.line.Line.{Line}
-use Rattle.printed.specs.Text.{linesIn, TextPut}
-use Rattle.printed.proofs.TextLaws.{Spelt, spelt-more, spelt-all}
+use Rattle.listing.specs.Listing.{linesIn, TextPut}
+use Rattle.listing.proofs.TextLaws.{Spelt, spelt-more, spelt-all}
 
 module _ (records : List ℕ) (i : ℕ) where
   -- the i-th record as it is lent

@@ -1,12 +1,12 @@
--- `printed::put_line` meets its contract: the line's text is copied to its place. Assumes nothing.
+-- `listing::put_line` meets its contract: the line's text is copied to its place. Assumes nothing.
 use borrow.Author.Needs.{needs}
 use mathlib.Core.Path.{_≡_, _∙_}
 use native.Mathlib.Omega.{arith}
 use lib.ListN.{length, length-drop}
 use Rattle.lines.specs.Line.{lineSize}
-use Rattle.printed.proofs.TextLaws.{lent}
-use Rattle.printed.proofs.put_line.Statement.{statement}
-use Rattle.printed.proofs.put_line.Tie as tie
+use Rattle.listing.proofs.TextLaws.{lent}
+use Rattle.listing.proofs.put_line.Statement.{statement}
+use Rattle.listing.proofs.put_line.Tie as tie
 
 part-put-bytes-end : tie.Need-part-put-bytes-end
 part-put-bytes-end c =

@@ -1,0 +1,2 @@
+-- Lines in a lent output.
+pub mod Listing
