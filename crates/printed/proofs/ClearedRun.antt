@@ -9,7 +9,6 @@ use native.Mathlib.Omega.{arith}
 use borrow.Author.Tests.{le-leb, eq-eqb}
 use lib.Dec.{leb, eqb}
 use lib.ListN.{length, take, replicate, length-replicate}
-use lib.Seq.{length-take-le}
 use Rattle.model.specs.Records.{Totals}
 use Rattle.model.specs.Totals.{clearedTotals, totalsAfter}
 use Rattle.ternary.specs.Sizes.{keySize}
@@ -40,10 +39,6 @@ take-zeros zero k l = refl
 take-zeros (suc m) zero l = absurd (omega arith)
 take-zeros (suc m) (suc k) l = ap (λ (xs : List ℕ). 0 ∷ xs) (take-zeros m k (le-of-suc-le-suc l))
 
--- a part of an array whose bytes are all x is as long as it says
-pub part-long : (m k x : ℕ) → m ≤ k → m ≡ length {A = ℕ} (take m (replicate k x))
-part-long m k x l = sym (length-take-le m (replicate k x) (rw (length-replicate {A = ℕ} k x) l))
-
 or-none : (o : Option Refusal) → orElse o none ≡ o
 or-none (some r) = refl
 or-none none = refl
@@ -72,6 +67,10 @@ module _ (n : ℕ) (some-there : 1 ≤ n) (few-there : n ≤ mostSlots) where
   call-refusal policy trace l =
       let room : outcomeSize * packetCount keySize trace ≤ outputRoom = omega arith in
       rw (ends-accepted, le-leb (outcomeSize * packetCount keySize trace) outputRoom room, or-none (traceRefusal trace))
+
+-- the first n of all cleared slots, as they are lent
+pub lent-end : (n : ℕ) (end : List ℕ) → n ≤ mostSlots → end ≡ clearedEnd mostSlots → take (slotSize keySize * n) end ≡ clearedEnd n
+lent-end n end l e = rw e (take-zeros (slotSize keySize * n) (slotSize keySize * mostSlots) (omega arith))
 
 -- what is known of a run from cleared ends, whose output's records were out
 module _ (n : ℕ) (some-there : 1 ≤ n) (few-there : n ≤ mostSlots) (policy trace : List ℕ) (short : length trace ≤ mostTraceBytes)

@@ -16,7 +16,7 @@ ghost use Rattle.lines.specs.Line.{Says};
 ghost use Rattle.lines.specs.Printed.{totalsLine};
 ghost use Rattle.listing.specs.Listing.{TextPut};
 ghost use Rattle.replay.specs.Files.{mostTraceBytes};
-ghost use Rattle.printed.specs.Text.{ranText, packetsOf, mostText, RanCleared};
+ghost use Rattle.printed.specs.Text.{clearedEnd, ranText, packetsOf, mostText, RanCleared};
 ghost use Rattle.printed.specs.Text.{outcomesFrom, callRefusal, textFor, replayText};
 
 // The text of every packet and of the totals is at most so long.
@@ -44,13 +44,20 @@ fn put_ran(ran: Ran, records: &[u8], out: &mut [u8]) -> usize
     }
 }
 
+// An end with room for every slot, cleared.
+fn cleared() -> [u8; layout::SLOT_SIZE * layout::MOST_SLOTS]
+    ensures { λ r. ⌜ r ≡ clearedEnd mostSlots ⌝ }
+{
+    [0; layout::SLOT_SIZE * layout::MOST_SLOTS]
+}
+
 // Runs the trace from cleared ends of n slots; the outcomes go to `records`.
 fn run_cleared(n: usize, policy: &[u8], trace: &[u8], records: &mut [u8]) -> Ran
     requires { ⌜ (1 ≤ n) × (n ≤ mostSlots) × (length (now trace) ≤ mostTraceBytes) × (length (now records) ≡ outcomeSize * mostPackets) ⌝ }
     ensures { λ r. ⌜ RanCleared n (now (policy .entry)) (now (trace .entry)) r (now (records .exit)) ⌝ }
 {
-    let mut table = [0u8; layout::SLOT_SIZE * layout::MOST_SLOTS];
-    let mut keeper = [0u8; layout::SLOT_SIZE * layout::MOST_SLOTS];
+    let mut table = cleared();
+    let mut keeper = cleared();
     let size = layout::SLOT_SIZE * n;
     let none = Totals {
         packets: 0,
@@ -69,13 +76,20 @@ fn run_cleared(n: usize, policy: &[u8], trace: &[u8], records: &mut [u8]) -> Ran
     )
 }
 
+// Room for the outcomes of every trace.
+fn outcome_room() -> [u8; layout::OUTCOME_SIZE * layout::MOST_PACKETS]
+    ensures { λ r. ⌜ outcomeSize * mostPackets ≡ length r ⌝ }
+{
+    [0; layout::OUTCOME_SIZE * layout::MOST_PACKETS]
+}
+
 // Writes what such a run came to.
 fn put_run(n: usize, policy: &[u8], trace: &[u8], out: &mut [u8]) -> usize
     requires { ⌜ (1 ≤ n) × (n ≤ mostSlots) × (length (now trace) ≤ mostTraceBytes) × (mostText ≤ length (now out)) ⌝ }
     ensures { λ r. ⌜ TextPut (textFor (callRefusal (now (policy .entry)) (now (trace .entry)))
         (outcomesFrom n (now (policy .entry)) (now (trace .entry)))) (now (out .entry)) r (now (out .exit)) ⌝ }
 {
-    let mut records = [0u8; layout::OUTCOME_SIZE * layout::MOST_PACKETS];
+    let mut records = outcome_room();
     let ran = run_cleared(n, policy, trace, &mut records);
     put_ran(ran, &records, out)
 }
