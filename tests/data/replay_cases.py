@@ -4,12 +4,14 @@ Two files ask the cases: parts.bin, in which each slots.txt, policy.bin and trac
 length 1, zero 3, then six numbers of four bytes: where slots.txt begins and how long it is, and the same of policy.bin and trace.bin; then the
 label.
 """
-from policies import SMALL, key, top
+from policies import SMALL, V2, V5, V6, fields, key, top
 from program import MOST_POLICY_BYTES, MOST_TRACE_BYTES, printed
 from rules import policy_bytes, rule_bytes
 
 POLICY = policy_bytes(SMALL)
 FLAWED = rule_bytes(SMALL[1], spare=1)
+# a rule with a value bit under a wildcard
+STRAY = rule_bytes(SMALL[0]._replace(value=SMALL[0].value | 1))
 
 
 def packets(*texts):
@@ -22,7 +24,8 @@ TRACE = packets('1000', '0000', '1010', '1001', '1111', '0100')
 # a text that gives no number of slots
 BAD_SLOTS = [b'', b'\n', b'0\n', b'00\n', b'01\n', b'002\n', b'257\n', b'260\n', b'300\n', b'999\n', b'1000\n', b'2560\n', b'65536\n', b'2',
              b'256', b'2\n\n', b'2\r\n', b'2\r', b'2 \n', b' 2\n', b'+2\n', b'-2\n', b'2\0', b'2\n2\n', b'\n2', b'/\n', b':\n', b'1/\n', b'1:\n',
-             b'/1\n', b':1\n', b'1/0\n', b'10:\n', b'1a\n', b'0x2\n', b'1,0\n', b'two\n', '\u0662\n'.encode(), b'\xb2\n']
+             b'/1\n', b':1\n', b'1/0\n', b'10:\n', b'1a\n', b'0x2\n', b'1,0\n', b'two\n',
+             b'04\n', b'+4\n', b' \n', b'99999999999999999999\n', '\u0662\n'.encode(), b'\xb2\n']
 SLOTS = [1, 2, 3, 9, 10, 11, 19, 99, 100, 101, 199, 200, 249, 250, 255, 256]
 
 
@@ -44,14 +47,14 @@ class Cases:
 
 def large(cases):
     """A policy file and a trace file at their limits and one byte over, of flawed records that no other test may see first."""
-    policy, trace = FLAWED * 1024 + b'\1', bytes([1] * (MOST_TRACE_BYTES + 1))
+    policy, trace = FLAWED * 1025, bytes([1] * 16 * 4097)
     cases.place(policy), cases.place(trace)
     good, bad = b'2\n', b'257\n'
-    over, full = policy, policy[:MOST_POLICY_BYTES]
-    long, most = trace, trace[:MOST_TRACE_BYTES]
-    for label, slots, p, t in [('4.2.2', bad, over, long), ('2.2', good, over, long), ('2.policy', good, over, TRACE), ('2.trace', good, POLICY, long),
-                               ('2.trace.flawed', good, FLAWED, long), ('full', good, full, most), ('full.trace', good, POLICY, most),
-                               ('ragged.most', good, full[:-1], most)]:
+    over, full = policy[:MOST_POLICY_BYTES + 1], policy[:MOST_POLICY_BYTES]
+    long, most = trace[:MOST_TRACE_BYTES + 1], trace[:MOST_TRACE_BYTES]
+    for label, slots, p, t in [('4.2.2', bad, over, long), ('2.2', good, over, long), ('2.policy', good, over, TRACE),
+                               ('2.trace', good, POLICY, long), ('2.trace.flawed', good, FLAWED, long), ('full', good, full, most), ('full.trace', good, POLICY, most),
+                               ('ragged.most', good, full[:-1], most), ('1025.rules', good, policy, TRACE), ('4097.packets', good, POLICY, trace)]:
         cases.ask(f'large.{label}', slots, p, t)
 
 
@@ -64,6 +67,11 @@ def refusals(cases):
                         ('3.first', FLAWED + POLICY + FLAWED, TRACE), ('3.trace', POLICY, spare), ('3.last', POLICY, TRACE + spare),
                         ('1.both', POLICY[:-1], short), ('1.empty', b'\0', b'')]:
         cases.ask(f'refuse.{label}', good, p, t)
+    # the first bad rule's place, for either flaw
+    for name, bad in [('spare', FLAWED), ('stray', STRAY)]:
+        for place in range(4):
+            cases.ask(f'refuse.3.{name}.{place}', good, POLICY[:32 * place] + bad + POLICY[32 * place:], TRACE)
+    cases.ask('refuse.3.stray.and.spare', good, POLICY + STRAY + FLAWED, TRACE)
 
 
 def runs(cases):
@@ -81,6 +89,17 @@ def runs(cases):
     every = [f'{i:04b}' for i in range(16)]
     cases.ask('again', b'4\n', many, packets(*(every * 3 + every[::-1] * 2)))
     cases.ask('most', b'8\n', POLICY, packets(*every) * 256)
+    papers(cases)
+
+
+def papers(cases):
+    """The papers' examples as traces, with an action for each rule."""
+    numbered = lambda rules, first=0: policy_bytes([r._replace(action=i + first) for i, r in enumerate(rules)])
+    cases.ask('V2', b'2\n', numbered(V2), packets('010011', '000111', '011011', '010011', '001101', '111111'))
+    cases.ask('V5', b'3\n', numbered(V5[:6], 1), packets('101', '001', '010', '011', '100', '110', '111', '000'))
+    to = lambda third, fourth, protocol, dport: fields('10.0.0.1', f'111.221.{third}.{fourth}', 1024, dport, protocol) + bytes(3)
+    cases.ask('V6', b'4\n', numbered(V6), to(69, 7, 6, 80) + to(67, 7, 6, 80) + to(100, 7, 17, 80) + to(64, 1, 6, 179) + to(64, 1, 17, 646)
+              + to(67, 7, 6, 80))
 
 
 def program(name, files, text):
