@@ -53,7 +53,8 @@ def large(cases):
     over, full = policy[:MOST_POLICY_BYTES + 1], policy[:MOST_POLICY_BYTES]
     long, most = trace[:MOST_TRACE_BYTES + 1], trace[:MOST_TRACE_BYTES]
     for label, slots, p, t in [('4.2.2', bad, over, long), ('2.2', good, over, long), ('2.policy', good, over, TRACE),
-                               ('2.trace', good, POLICY, long), ('2.trace.flawed', good, FLAWED, long), ('full', good, full, most), ('full.trace', good, POLICY, most),
+                               ('2.trace', good, POLICY, long), ('2.trace.flawed', good, FLAWED, long), ('full', good, full, most),
+                               ('full.trace', good, POLICY, most),
                                ('ragged.most', good, full[:-1], most), ('1025.rules', good, policy, TRACE), ('4097.packets', good, POLICY, trace)]:
         cases.ask(f'large.{label}', slots, p, t)
 
