@@ -1,10 +1,10 @@
 -- Parts of a buffer: read byte by byte, cut out, and replaced. Assumes nothing.
 use Prim.Native.Nat.{ℕ, zero, suc, _+_, _-_, _≤_, _<_}
-use mathlib.Core.Path.{_≡_, refl, ap, _∙_}
+use mathlib.Core.Path.{_≡_, refl, sym, ap, _∙_}
 use mathlib.Core.List.{List, [], _∷_, _++_, append-assoc, append-nil}
 use native.Mathlib.Omega.{arith}
 use native.Mathlib.Nat.{add-suc}
-use lib.ListN.{length, take, drop, getD, length-append, length-take, length-drop}
+use lib.ListN.{length, take, drop, getD, length-append, length-take, length-drop, take-append-drop}
 use lib.Seq.{drop-cons, drop-length, take-take, take-at, drop-at, take-add, drop-drop, getD-drop}
 use lib.Seq.{length-take-le, take-append-le, drop-append-le, drop-append-add}
 use Rattle.model.specs.Bits.{Bytes}
@@ -127,6 +127,31 @@ splice-next at k xs ys bs e h =
       r,
       append-assoc (take at bs) xs ys,
     )
+
+-- a part of a buffer with some of its bytes replaced, put back where it was: these bytes alone are replaced
+pub splice-part : (n at k : ℕ) (xs bs : List ℕ) → k + length xs ≤ n → at + n ≤ length bs
+    → splice at (splice k xs (part n at bs)) bs ≡ splice (at + k) xs bs
+unfolding splice
+splice-part n at k xs bs h l =
+    let c : List ℕ = part n at bs in
+    let long : length c ≡ n = part-length n at bs l in
+    let after : List ℕ = drop (k + length xs) c in
+    let size : at + length (splice k xs c) ≡ at + n = omega (arith, length-splice k xs c (omega arith)) in
+    let front : take (at + k) bs ≡ take at bs ++ take k c =
+    take-add at k bs ∙ ap (λ (r : List ℕ). take at bs ++ r) (sym (take-take k n (drop at bs) (omega arith)))
+    in
+    let e : at + (k + length xs) ≡ at + k + length xs = omega arith in
+    let whole : c ++ drop (at + n) bs ≡ drop at bs = rw (← drop-drop n at bs) (take-append-drop n (drop at bs)) in
+    let back : drop (at + k + length xs) bs ≡ after ++ drop (at + n) bs =
+    sym (ap (λ (i : ℕ). drop i bs) e)
+    ∙ sym (drop-drop (k + length xs) at bs)
+    ∙ ap (drop (k + length xs)) (sym whole)
+    ∙ drop-append-le (k + length xs) c (drop (at + n) bs) (omega arith)
+    in
+    rw (size, front, back, append-assoc (take at bs) (take k c) xs)
+    (append-assoc (take at bs) (take k c ++ xs ++ after) (drop (at + n) bs)
+    ∙ ap (λ (r : List ℕ). take at bs ++ r) (append-assoc (take k c ++ xs) after (drop (at + n) bs))
+    ∙ sym (append-assoc (take at bs) (take k c ++ xs) (after ++ drop (at + n) bs)))
 
 -- four parts written one after the other fill a buffer
 pub fill-four : (a b c d s : List ℕ) (i j k : ℕ) → i ≡ length a → j ≡ i + length b → k ≡ j + length c → k + length d ≡ length s

@@ -1,6 +1,6 @@
 -- Slots that bytes can hold: what is decoded from bytes is one, and one that is put into a buffer leaves it a buffer of bytes, which the list of
 -- slots then spells. For every width. Assumes nothing.
-use mathlib.Core.Path.{_≡_, sym, ap, _∙_}
+use mathlib.Core.Path.{_≡_, refl, sym, ap, _∙_}
 use mathlib.Core.List.{List, [], _∷_, _++_}
 use Prim.Native.Nat.{ℕ, zero, suc, _+_, _*_, _/_, _%_, _^_, _≤_, _<_, min, max}
 use native.Mathlib.Omega.{arith}
@@ -10,11 +10,11 @@ use Rattle.model.specs.Records.{Slot, entryOf, slotWith}
 use Rattle.model.specs.Ends.{top, counted, confirmed}
 use Rattle.buffers.specs.Numbers.{be, toBe}
 use Rattle.buffers.specs.Parts.{part, splice, chunk, spelled}
-use Rattle.buffers.proofs.PartLaws.{part-length, part-bytes, drop-bytes}
+use Rattle.buffers.proofs.PartLaws.{part-length, part-bytes, drop-bytes, splice-part}
 use Rattle.buffers.proofs.NumberLaws.{be-two, be-halves}
 use Rattle.records.specs.Layout.{slotSequence, slotHits, slotValue, slotMask, slotAction, slotRule, slotSettled, slotSpare, slotSize}
 use Rattle.slots.specs.Slots.{decodeSlot, encodeSlot, SlotFits, slotCount, slotIn, slots, putSlot}
-use Rattle.slots.proofs.SlotLaws.{length-put-slot, slots-put, slots-spell}
+use Rattle.slots.proofs.SlotLaws.{encode-decode-slot, length-put-slot, slots-put, slots-spell}
 
 -- ---- bytes of lists and of numbers
 
@@ -115,6 +115,11 @@ pub confirmed-byte : (w : ℕ) (x : Slot) (hits : ℕ) → ByteSlot w x → hits
 confirmed-byte w x hits h low =
     with-byte w x (max (x .hits) hits) 1 (x .spare) h (omega (arith, h .fits .hits-fits)) (omega arith) (h .spare-byte)
 
+-- the bytes of the same slot with other hits: four of them are replaced
+hits-replaced : (x : Slot) (hits : ℕ) → encodeSlot (slotWith (entryOf x) hits (x .settled) (x .spare)) ≡ splice slotHits (toBe 4 hits) (encodeSlot x)
+unfolding encodeSlot splice
+hits-replaced x hits = refl
+
 -- ---- a slot of a buffer, and one that is put there
 
 module _ (w : ℕ) (bs : List ℕ) (i : ℕ) (below : i < slotCount w bs) (room : slotSize w * i + slotSize w ≤ length bs) (h : Bytes bs) where
@@ -123,6 +128,18 @@ module _ (w : ℕ) (bs : List ℕ) (i : ℕ) (below : i < slotCount w bs) (room 
       decoded-byte w (chunk (slotSize w) bs i)
       (part-bytes (slotSize w) (slotSize w * i) bs h)
       (part-length (slotSize w) (slotSize w * i) bs room)
+
+  -- other hits written over its own put the slot with these hits
+  pub put-hits : (hits : ℕ) → let x = slotIn w bs i in
+      splice (slotSize w * i + slotHits) (toBe 4 hits) bs ≡ putSlot w bs i (slotWith (entryOf x) hits (x .settled) (x .spare))
+  put-hits hits =
+      let x = slotIn w bs i in
+      let c = chunk (slotSize w) bs i in
+      let same : encodeSlot x ≡ c =
+      encode-decode-slot w c (part-length (slotSize w) (slotSize w * i) bs room) (part-bytes (slotSize w) (slotSize w * i) bs h)
+      in
+      sym (ap (λ (r : List ℕ). splice (slotSize w * i) r bs) (hits-replaced x hits ∙ ap (splice slotHits (toBe 4 hits)) same)
+      ∙ splice-part (slotSize w) (slotSize w * i) slotHits (toBe 4 hits) bs (omega arith) room)
 
   module _ (x : Slot) (b : ByteSlot w x) where
     pub put-bytes : Bytes (putSlot w bs i x)

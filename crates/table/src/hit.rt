@@ -1,4 +1,5 @@
 // One hit more in a slot.
+use records::layout;
 use slots::slot::Slot;
 ghost use mathlib.Core.Path.{_≡_};
 ghost use Prim.Native.Nat.{_<_};
@@ -32,13 +33,13 @@ fn counted(x: Slot) -> Slot
     }
 }
 
-// Counts a hit in the i-th slot of a table, and gives the slot as it then is.
+// Counts a hit in the i-th slot of a table, and gives the slot as it then is. Its hits alone are written.
 pub fn count(table: &mut [u8], i: usize) -> Slot
     requires { ⌜ i < slotCount keySize (now table) ⌝ }
     ensures { λ r. ⌜ Counted (now (table .entry)) i (asSlot r) (now (table .exit)) ⌝ }
 {
     let old = slots::slot::slot_at(table, i);
     let new = counted(old);
-    slots::slot::put_slot(table, i, new);
+    buffers::put_be32(table, layout::SLOT_SIZE * i + layout::SLOT_HITS, new.hits);
     new
 }
