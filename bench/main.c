@@ -41,24 +41,16 @@ static void print_row(const struct row *row, const struct measured *m)
     }
 }
 
-/* A row that needs wg_run is left out where the library has none. */
-static int can_measure(const struct row *row)
-{
-    return library.run != NULL || row->work != run_trace;
-}
-
 int main(void)
 {
     static struct measured measured[MOST_ROWS];
 
     for (int pass = 0; pass < PASSES; pass++)
         for (size_t i = 0; i < row_count; i++)
-            if (can_measure(&rows[i]))
-                measure(&rows[i], &measured[i]);
+            measure(&rows[i], &measured[i]);
     printf("%-38s%7s%7s  %-8s%13s%13s%8s%7s   %s\n", "", "rules", "slots", "buffers", "library, ns", "plain C, ns", "ratio", "aim", "checksum");
     for (size_t i = 0; i < row_count; i++)
-        if (can_measure(&rows[i]))
-            print_row(&rows[i], &measured[i]);
+        print_row(&rows[i], &measured[i]);
     printf("\n%u ratios over their aim (!), %u checksums that differ\n", over, apart);
     return apart != 0;
 }

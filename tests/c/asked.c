@@ -119,11 +119,6 @@ const struct call call_list[CALLS] = {
     [RUN] = {"wg_run", ask_run, HAS(POLICY) | HAS(TRACE) | HAS(TABLE) | HAS(KEEPER) | HAS(OUT)}
 };
 
-int has_call(const struct calls *calls, enum call_name call)
-{
-    return call != RUN || calls->run != NULL;
-}
-
 int same_answer(const struct answer *a, const struct answer *b)
 {
     return a->refusal == b->refusal && a->place == b->place && memcmp(a->field, b->field, sizeof a->field) == 0;

@@ -37,9 +37,6 @@ struct call {
 
 extern const struct call call_list[CALLS];
 
-/* Whether these calls have the call at all. */
-int has_call(const struct calls *calls, enum call_name call);
-
 int same_answer(const struct answer *a, const struct answer *b);
 
 #endif

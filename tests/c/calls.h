@@ -20,7 +20,7 @@ struct calls {
                            struct wg_totals *);
 };
 
-/* The library's. `run` is NULL where the archive has no wg_run (WITH_RUN is not defined). */
+/* The library's. */
 extern const struct calls library;
 
 /* The plain reading's, right or wrong. */

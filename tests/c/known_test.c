@@ -168,6 +168,5 @@ void test_known(const struct calls *calls)
     test_steps();
     test_reverse();
     test_last_sequence();
-    if (c->run != NULL)
-        test_run();
+    test_run();
 }

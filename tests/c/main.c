@@ -20,8 +20,6 @@ int main(int count, char **words)
 {
     uint64_t seed = count > 1 ? strtoull(words[1], NULL, 10) : 1;
 
-    if (library.run == NULL)
-        puts("wg_run is not in the archive: its tests are left out");
     test_known(&library);
     tell("worked examples");
     test_refusals(&library);
@@ -30,10 +28,8 @@ int main(int count, char **words)
     tell("differences from the plain reading");
     test_stack(&library);
     tell("a stack of 64 KiB");
-    if (library.run != NULL) {
-        test_runs(&library, seed);
-        tell("runs, whole and cut");
-    }
+    test_runs(&library, seed);
+    tell("runs, whole and cut");
     test_link(&library, seed);
     tell("both ends over a link");
     printf("%u passed, %u failed\n", checks_passed(), checks_failed());

@@ -90,8 +90,6 @@ void test_stack(const struct calls *calls)
     }
     for (int call = 0; call < CALLS; call++) {
         struct errand errand = {calls, call, {0, 0, {0}}};
-        if (!has_call(calls, call))
-            continue;
         make_largest(call);
         lent_copy(&lent, &before);
         lent_copy(&plain, &before);

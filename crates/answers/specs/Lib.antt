@@ -1,5 +1,3 @@
--- The numbers and values of each answer, as C is told them.
-pub mod Table
-pub mod Keeper
+-- The numbers and values of each answer about a policy, as C is told them.
 pub mod Policy
 pub mod Isolate

@@ -1,6 +1,4 @@
-// The answers of the calls as plain numbers, in structs that C reads.
+// The answers of the calls about a policy as plain numbers, and the structs that C reads.
 pub mod isolate_answers;
-pub mod keeper_answers;
 pub mod policy_answers;
 pub mod structs;
-pub mod table_answers;

@@ -1,11 +1,11 @@
 // The table's answers as numbers.
-use crate::structs;
-use crate::structs::WgDone;
-use crate::structs::WgFound;
+use answers::structs;
+use answers::structs::WgDone;
+use answers::structs::WgFound;
 use received::write::WriteAnswer;
 use table::lookup::LookupAnswer;
 ghost use mathlib.Core.Path.{_≡_};
-ghost use Rattle.answers.specs.Table.{foundNumbers, writtenNumbers};
+ghost use Rattle.end_answers.specs.Table.{foundNumbers, writtenNumbers};
 
 // Of a lookup.
 pub fn found_numbers(answer: LookupAnswer) -> WgFound

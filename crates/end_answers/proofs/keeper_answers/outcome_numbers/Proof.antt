@@ -1,7 +1,7 @@
--- `answers::keeper_answers::outcome_numbers` meets its contract: each case has its own numbers. Assumes nothing.
+-- `end_answers::keeper_answers::outcome_numbers` meets its contract: each case has its own numbers. Assumes nothing.
 use borrow.Author.Needs.{needs}
-use Rattle.answers.proofs.keeper_answers.outcome_numbers.Statement.{statement}
-use Rattle.answers.proofs.keeper_answers.outcome_numbers.Tie as tie
+use Rattle.end_answers.proofs.keeper_answers.outcome_numbers.Statement.{statement}
+use Rattle.end_answers.proofs.keeper_answers.outcome_numbers.Tie as tie
 
 returns : tie.Need-returns
 returns c = rw (c .before .answer .given .1)

@@ -1,12 +1,12 @@
 // The keeper's answers as numbers.
-use crate::structs::WgCount;
-use crate::structs::WgDone;
-use crate::structs::WgOutcome;
+use answers::structs::WgCount;
+use answers::structs::WgDone;
+use answers::structs::WgOutcome;
 use keeper::OpenAnswer;
 use keeper::ReportAnswer;
 use miss::MissAnswer;
 ghost use mathlib.Core.Path.{_≡_};
-ghost use Rattle.answers.specs.Keeper.{outcomeNumbers, reportedNumbers, openedNumbers};
+ghost use Rattle.end_answers.specs.Keeper.{outcomeNumbers, reportedNumbers, openedNumbers};
 
 // Of a miss.
 pub fn outcome_numbers(answer: MissAnswer) -> WgOutcome

@@ -1,7 +1,7 @@
--- `answers::table_answers::found_numbers` meets its contract: each case has its own numbers. Assumes nothing.
+-- `end_answers::table_answers::found_numbers` meets its contract: each case has its own numbers. Assumes nothing.
 use borrow.Author.Needs.{needs}
-use Rattle.answers.proofs.table_answers.found_numbers.Statement.{statement}
-use Rattle.answers.proofs.table_answers.found_numbers.Tie as tie
+use Rattle.end_answers.proofs.table_answers.found_numbers.Statement.{statement}
+use Rattle.end_answers.proofs.table_answers.found_numbers.Tie as tie
 
 returns : tie.Need-returns
 returns c = rw (c .before .answer .given .1)

@@ -1,0 +1,3 @@
+// The answers of the two ends as plain numbers.
+pub mod keeper_answers;
+pub mod table_answers;
