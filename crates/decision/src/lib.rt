@@ -32,7 +32,7 @@ pub fn show_answer(policy: &[u8], key: &[u8], table: &[u8]) -> ShowAnswer
             place: 0,
         });
     }
-    if let slots::matching::Holding::At(i) = slots::matching::first_holding(table, key) {
+    if let holding::Holding::At(i) = holding::first_holding(table, key) {
         return ShowAnswer::FromTable(i as u16);
     }
     match policy::best_rule(policy, key) {

@@ -17,11 +17,11 @@ use Rattle.model.proofs.BelowLaws.{Passed, passed-none, passed-more}
 use Rattle.model.proofs.OrderLaws.{first-found, first-missed, foremost-next}
 use Rattle.ternary.specs.Sizes.{keySize}
 use Rattle.slots.specs.Slots.{slotCount, slots}
-use Rattle.slots.specs.Holding.{holdingOf}
-use Rattle.slots.specs.declared.matching.Holding.{Holding}
-use Rattle.slots.specs.declared.matching.Holding.the-variants.{Nowhere, At}
+use Rattle.holding.specs.Holding.{holdingOf}
+use Rattle.holding.specs.declared.Holding.{Holding}
+use Rattle.holding.specs.declared.Holding.the-variants.{Nowhere, At}
 use Rattle.slots.proofs.SlotLaws.{slot-count}
-use Rattle.slots.proofs.HoldingLaws.{found-nowhere, found-at}
+use Rattle.holding.proofs.HoldingLaws.{found-nowhere, found-at}
 use Rattle.room.specs.Room.{firstEmpty}
 
 module _ (bs : List ℕ) where

@@ -1,13 +1,13 @@
 // What a miss asks of the keeper's slots: the largest sequence, and the slot for a new entry.
+use holding::Holding;
 use records::layout;
-use slots::matching::Holding;
 ghost use mathlib.Core.Path.{_≡_};
 ghost use Prim.Native.Nat.{_<_, max};
 ghost use Rattle.model.specs.Records.{slotAt};
 ghost use Rattle.model.specs.Ends.{largest, givenUpBefore, givenUp, roomIn};
 ghost use Rattle.ternary.specs.Sizes.{keySize};
 ghost use Rattle.slots.specs.Slots.{slotCount, slots};
-ghost use Rattle.slots.specs.Holding.{holdingOf};
+ghost use Rattle.holding.specs.Holding.{holdingOf};
 ghost use Rattle.room.specs.Room.{firstEmpty};
 
 pub mod fields;

@@ -1,6 +1,4 @@
--- Laws of slots: decoding and encoding undo each other, and to put a slot is to set it; the search for a slot that takes a key.
+-- Laws of slots: decoding and encoding undo each other, and to put a slot is to set it.
 pub mod SlotLaws
-pub mod InPlace
-pub mod HoldingLaws
 pub mod FitLaws
 pub mod ByteSlots

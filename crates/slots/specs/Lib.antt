@@ -2,4 +2,3 @@
 pub mod Slots
 pub mod Refusals
 pub mod Structs
-pub mod Holding

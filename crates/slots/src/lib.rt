@@ -1,4 +1,3 @@
 // The slots of an end, in the buffer that its owner lends.
 pub mod buffer;
-pub mod matching;
 pub mod slot;

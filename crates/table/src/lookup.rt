@@ -28,9 +28,9 @@ fn find(key: &[u8], table: &[u8], room: usize) -> Found
             place: 0,
         });
     }
-    match slots::matching::first_holding(table, key) {
-        slots::matching::Holding::Nowhere => Found::Miss,
-        slots::matching::Holding::At(i) => {
+    match holding::first_holding(table, key) {
+        holding::Holding::Nowhere => Found::Miss,
+        holding::Holding::At(i) => {
             if room < layout::REPORT_SIZE {
                 Found::Refused(Refusal {
                     number: refusal::SHORT_OUTPUT,

@@ -19,11 +19,11 @@ use Rattle.records.specs.Rules.{rules}
 use Rattle.records.proofs.RuleLaws.{rule-count}
 use Rattle.slots.specs.Slots.{slotCount, slotIn, slots}
 use Rattle.slots.specs.Refusals.{WholeSlots}
-use Rattle.slots.specs.Holding.{holdingOf}
-use Rattle.slots.specs.declared.matching.Holding.{Holding}
-use Rattle.slots.specs.declared.matching.Holding.the-variants.{Nowhere, At}
+use Rattle.holding.specs.Holding.{holdingOf}
+use Rattle.holding.specs.declared.Holding.{Holding}
+use Rattle.holding.specs.declared.Holding.the-variants.{Nowhere, At}
 use Rattle.slots.proofs.SlotLaws.{slot-count, slot-at}
-use Rattle.slots.proofs.HoldingLaws.{found-nowhere, found-at}
+use Rattle.holding.proofs.HoldingLaws.{found-nowhere, found-at}
 use Rattle.messages.specs.Structs.{asWrite}
 use Rattle.outcomes.specs.Outcomes.{asOutcome}
 use Rattle.policy.specs.Best.{bestFound}

@@ -1,9 +1,9 @@
 // What a miss comes to, by value: nothing is written yet.
 use cover::numbers::wide;
+use holding::Holding;
 use messages::write::Write;
 use outcomes::Outcome;
 use records::layout;
-use slots::matching::Holding;
 use slots::slot::slot_at;
 ghost use mathlib.Core.Path.{_≡_};
 ghost use mathlib.Core.List.{List};
@@ -149,7 +149,7 @@ fn with_rule(policy: &[u8], key: &[u8], keeper: &[u8], number: u16, action: u16)
     ensures { λ r. ⌜ DecidedAs (now (policy .entry)) (now (keeper .entry))
         (ruleMiss (now (policy .entry)) (now (key .entry)) (now (keeper .entry)) number) r ⌝ }
 {
-    match slots::matching::first_holding(keeper, key) {
+    match holding::first_holding(keeper, key) {
         Holding::At(i) => write_again(keeper, i),
         Holding::Nowhere => fresh_entry(policy, key, keeper, number, action),
     }

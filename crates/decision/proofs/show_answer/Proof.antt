@@ -10,7 +10,7 @@ use Rattle.model.proofs.Cases.{not-true, not-false}
 use Rattle.ternary.specs.Sizes.{keySize, positions}
 use Rattle.slots.specs.Slots.{slots}
 use Rattle.slots.specs.Refusals.{slotsFit, slotsRefusal}
-use Rattle.slots.proofs.HoldingLaws.{found-nowhere, found-at}
+use Rattle.holding.proofs.HoldingLaws.{found-nowhere, found-at}
 use Rattle.policy.specs.Refusals.{policyRefusal, keyRefusal}
 use Rattle.policy.specs.Answers.{bestRefusal}
 use Rattle.policy.proofs.CheckLaws.{check-refused, check-passed, passed-few}

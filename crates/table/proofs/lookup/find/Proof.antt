@@ -10,7 +10,7 @@ use Rattle.ternary.specs.Sizes.{keySize, positions}
 use Rattle.policy.specs.Refusals.{keyRefusal}
 use Rattle.slots.specs.Slots.{slots}
 use Rattle.slots.specs.Refusals.{slotsFit, slotsRefusal}
-use Rattle.slots.proofs.HoldingLaws.{found-nowhere, found-at}
+use Rattle.holding.proofs.HoldingLaws.{found-nowhere, found-at}
 use Rattle.table.specs.Lookups.{lookupRefusal, findAnswer}
 use Rattle.table.proofs.lookup.find.Statement.{statement}
 use Rattle.table.proofs.lookup.find.Tie as tie

@@ -1,8 +1,8 @@
 -- The answer of the search for a slot that takes a key. Assumes nothing.
 use mathlib.Core.Option.{Option, none, some}
 use Prim.Native.Nat.{ℕ}
-use Rattle.slots.specs.declared.matching.Holding.{Holding}
-use Rattle.slots.specs.declared.matching.Holding.the-variants.{Nowhere, At}
+use Rattle.holding.specs.declared.Holding.{Holding}
+use Rattle.holding.specs.declared.Holding.the-variants.{Nowhere, At}
 
 abbrev pub holdingOf : Option ℕ → Holding
 holdingOf none = Nowhere

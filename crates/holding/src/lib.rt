@@ -5,8 +5,8 @@ ghost use Prim.Native.Nat.{_<_};
 ghost use lib.ListN.{length};
 ghost use Rattle.model.specs.Ends.{holds, firstFor};
 ghost use Rattle.ternary.specs.Sizes.{keySize, positions};
 ghost use Rattle.slots.specs.Slots.{slotCount, slots};
-ghost use Rattle.slots.specs.Holding.{holdingOf};
+ghost use Rattle.holding.specs.Holding.{holdingOf};
 
 // Whether the i-th slot of an end is not empty and takes the key.
 pub fn slot_holds(s: &[u8], i: usize, key: &[u8]) -> bool

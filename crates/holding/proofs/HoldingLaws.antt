@@ -9,10 +9,10 @@ use lib.ListN.{length}
 use Rattle.model.specs.Ends.{Key, holds, firstFor}
 use Rattle.model.proofs.BelowLaws.{Passed, passed-none, passed-more}
 use Rattle.model.proofs.OrderLaws.{first-found, first-missed}
 use Rattle.slots.specs.Slots.{slotCount, slots}
-use Rattle.slots.specs.Holding.{holdingOf}
-use Rattle.slots.specs.declared.matching.Holding.the-variants.{Nowhere, At}
+use Rattle.holding.specs.Holding.{holdingOf}
+use Rattle.holding.specs.declared.Holding.the-variants.{Nowhere, At}
 use Rattle.slots.proofs.SlotLaws.{slot-count}
 
 -- ---- the loop over the slots of a buffer
 

@@ -1,4 +1,4 @@
--- `slots::matching::slot_holds` meets its contract: the sequence and the rows are those of the slot. Assumes nothing.
+-- `holding::slot_holds` meets its contract: the sequence and the rows are those of the slot. Assumes nothing.
 use borrow.Author.Needs.{needs}
 use Prim.Native.Nat.{_+_, _*_}
 use native.Mathlib.Omega.{arith}
@@ -7,9 +7,9 @@ use borrow.Author.Tests.{eq-eqb, ne-eqb}
 use Rattle.buffers.proofs.PartLaws.{part-length}
 use Rattle.ternary.specs.Sizes.{keySize}
 use Rattle.records.specs.Layout.{slotValue, slotMask, slotSize}
-use Rattle.slots.proofs.InPlace.{slot-in-place}
-use Rattle.slots.proofs.matching.slot_holds.Statement.{statement}
-use Rattle.slots.proofs.matching.slot_holds.Tie as tie
+use Rattle.holding.proofs.InPlace.{slot-in-place}
+use Rattle.holding.proofs.slot_holds.Statement.{statement}
+use Rattle.holding.proofs.slot_holds.Tie as tie
 
 returns : tie.Need-returns
 returns c =

@@ -1,11 +1,11 @@
--- `slots::matching::first_holding` meets its contract: no slot below i takes the key. Assumes nothing.
+-- `holding::first_holding` meets its contract: no slot below i takes the key. Assumes nothing.
 use borrow.Author.Needs.{needs}
 use mathlib.Core.Path.{sym, _∙_}
 use Prim.Native.Nat.{_≤_, _-_}
 use Rattle.ternary.specs.Sizes.{keySize}
-use Rattle.slots.proofs.HoldingLaws.{Unheld, unheld-none, unheld-more, held-here, held-nowhere}
-use Rattle.slots.proofs.matching.first_holding.Statement.{statement}
-use Rattle.slots.proofs.matching.first_holding.Tie as tie
+use Rattle.holding.proofs.HoldingLaws.{Unheld, unheld-none, unheld-more, held-here, held-nowhere}
+use Rattle.holding.proofs.first_holding.Statement.{statement}
+use Rattle.holding.proofs.first_holding.Tie as tie
 
 abbrev Inv-loop : tie.InvT-loop
 Inv-loop s key n i₀ i = (i ≤ n) × Unheld keySize s key i

@@ -1,0 +1,3 @@
+-- Laws of the search for a slot that takes a key.
+pub mod InPlace
+pub mod HoldingLaws
