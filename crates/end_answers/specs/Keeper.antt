@@ -3,8 +3,8 @@ use Rattle.miss.specs.declared.MissAnswer.{MissAnswer}
 use Rattle.miss.specs.declared.MissAnswer.the-variants.{Refused as MissRefused, Outcome}
 use Rattle.keeper.specs.declared.ReportAnswer.{ReportAnswer}
 use Rattle.keeper.specs.declared.ReportAnswer.the-variants.{Refused as ReportRefused, Taken}
-use Rattle.keeper.specs.declared.OpenAnswer.{OpenAnswer}
-use Rattle.keeper.specs.declared.OpenAnswer.the-variants.{Refused as OpenRefused, Count}
+use Rattle.open_slots.specs.declared.OpenAnswer.{OpenAnswer}
+use Rattle.open_slots.specs.declared.OpenAnswer.the-variants.{Refused as OpenRefused, Count}
 use Rattle.answers.specs.declared.structs.WgDone.{WgDone}
 use Rattle.answers.specs.declared.structs.WgCount.{WgCount}
 use Rattle.answers.specs.declared.structs.WgOutcome.{WgOutcome}

@@ -2,9 +2,9 @@
 use answers::structs::WgCount;
 use answers::structs::WgDone;
 use answers::structs::WgOutcome;
-use keeper::OpenAnswer;
 use keeper::ReportAnswer;
 use miss::MissAnswer;
+use open_slots::OpenAnswer;
 ghost use mathlib.Core.Path.{_≡_};
 ghost use Rattle.end_answers.specs.Keeper.{outcomeNumbers, reportedNumbers, openedNumbers};
 

@@ -166,12 +166,12 @@ fn ask_report(keeper: &mut [u8], message: &[u8]) -> usize {
 }
 
 fn ask_open(keeper: &[u8], out: &mut [u8]) -> usize {
-    match keeper::open_list(keeper, out) {
-        keeper::OpenAnswer::Refused(r) => {
+    match open_slots::open_list(keeper, out) {
+        open_slots::OpenAnswer::Refused(r) => {
             say_refused(r);
             0
         }
-        keeper::OpenAnswer::Count(n) => {
+        open_slots::OpenAnswer::Count(n) => {
             say_word(b" open ", n);
             twice(n)
         }

@@ -1,3 +1,2 @@
--- Laws of the keeper's calls.
+-- Laws of a report at the keeper.
 pub mod ReportLaws
-pub mod OpenLaws

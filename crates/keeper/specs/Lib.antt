@@ -1,3 +1,2 @@
--- What the keeper's calls answer, and what they leave in its buffer.
+-- What the keeper answers to a report, and what it leaves in its buffer.
 pub mod Reports
-pub mod Opens

@@ -16,8 +16,8 @@ use Rattle.buffers.proofs.NumberLaws.{be-toBe}
 use Rattle.records.specs.Layout.{mostSlots}
 use Rattle.checks.specs.declared.refusal.Refusal.{Refusal}
 use Rattle.cover.specs.Answers.{numberBytes}
-use Rattle.keeper.specs.Opens.{openIn, openRefusal, answerOf, Opened}
-use Rattle.keeper.specs.declared.OpenAnswer.the-variants.{Count}
+use Rattle.open_slots.specs.Opens.{openIn, openRefusal, answerOf, Opened}
+use Rattle.open_slots.specs.declared.OpenAnswer.the-variants.{Count}
 
 -- ---- a list, and its numbers of two bytes each
 

@@ -37,10 +37,10 @@ use Rattle.table.specs.Lookups.{answerOf, lookupAnswer}
 use Rattle.received.specs.Writes.{writeCallRefusal}
 use Rattle.received.proofs.ModelLaws.{taken-here, good-lookup}
 use Rattle.keeper.specs.Reports.{numbered, reportRefused}
-use Rattle.keeper.specs.Opens.{openIn, openRefusal, Opened}
-use Rattle.keeper.specs.declared.OpenAnswer.the-variants.{Count}
+use Rattle.open_slots.specs.Opens.{openIn, openRefusal, Opened}
+use Rattle.open_slots.specs.declared.OpenAnswer.the-variants.{Count}
 use Rattle.keeper.proofs.ReportLaws.{report-meaning}
-use Rattle.keeper.proofs.OpenLaws.{list-few}
+use Rattle.open_slots.proofs.OpenLaws.{list-few}
 use Rattle.verdict.specs.Decisions.{deciding}
 use Rattle.link.specs.Calls.{State, clearedEnds, Call, after, Sequence, Throughout}
 use Rattle.link.specs.AnyCall.{AnyCall, AnyCallPromise}

@@ -18,9 +18,9 @@ use Rattle.received.specs.Writes.{writeCallRefusal, Received}
 use Rattle.received.specs.declared.write.WriteAnswer.{WriteAnswer}
 use Rattle.received.specs.declared.write.WriteAnswer.the-variants.{Refused as WriteRefused, Taken}
 use Rattle.keeper.specs.Reports.{reportRefused, Reported}
-use Rattle.keeper.specs.Opens.{Opened}
+use Rattle.open_slots.specs.Opens.{Opened}
 use Rattle.keeper.specs.declared.ReportAnswer.{ReportAnswer}
-use Rattle.keeper.specs.declared.OpenAnswer.{OpenAnswer}
+use Rattle.open_slots.specs.declared.OpenAnswer.{OpenAnswer}
 use Rattle.verdict.specs.Decisions.{givesWrite}
 use Rattle.miss.specs.Answers.{missRefused, Missed}
 use Rattle.miss.specs.declared.MissAnswer.{MissAnswer}

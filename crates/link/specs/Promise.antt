@@ -21,8 +21,8 @@ use Rattle.table.specs.declared.lookup.LookupAnswer.{LookupAnswer}
 use Rattle.table.specs.declared.lookup.LookupAnswer.the-variants.{Refused, Miss, Hit}
 use Rattle.received.specs.Writes.{writeCallRefusal}
 use Rattle.keeper.specs.Reports.{reportRefused}
-use Rattle.keeper.specs.Opens.{openRefusal, Opened}
-use Rattle.keeper.specs.declared.OpenAnswer.the-variants.{Count}
+use Rattle.open_slots.specs.Opens.{openRefusal, Opened}
+use Rattle.open_slots.specs.declared.OpenAnswer.the-variants.{Count}
 use Rattle.link.specs.Calls.{State, clearedEnds, Call, Sequence, Throughout}
 
 -- a lookup's answer is a miss, or the best rule's number and that rule's action

@@ -9,9 +9,9 @@ use Rattle.table.specs.declared.lookup.LookupAnswer.{LookupAnswer}
 use Rattle.received.specs.Writes.{Received}
 use Rattle.received.specs.declared.write.WriteAnswer.{WriteAnswer}
 use Rattle.keeper.specs.Reports.{Reported}
-use Rattle.keeper.specs.Opens.{Opened}
+use Rattle.open_slots.specs.Opens.{Opened}
 use Rattle.keeper.specs.declared.ReportAnswer.{ReportAnswer}
-use Rattle.keeper.specs.declared.OpenAnswer.{OpenAnswer}
+use Rattle.open_slots.specs.declared.OpenAnswer.{OpenAnswer}
 use Rattle.miss.specs.Answers.{Missed}
 use Rattle.miss.specs.declared.MissAnswer.{MissAnswer}
 use Rattle.model.specs.Records.{Totals}

@@ -11,7 +11,7 @@ use Rattle.messages.specs.Reports.{decodeReport}
 use Rattle.cover.specs.Answers.{numberBytes, outOf}
 use Rattle.checks.specs.Refusals.{unlessRefused}
 use Rattle.keeper.specs.Reports.{reportRefused, reportAnswer, reportBytes}
-use Rattle.keeper.specs.Opens.{openIn, openRefusal, answerOf as openOf}
+use Rattle.open_slots.specs.Opens.{openIn, openRefusal, answerOf as openOf}
 use Rattle.verdict.specs.Decisions.{deciding, missIn}
 use Rattle.miss.specs.Answers.{missRefused, missBytes, outWith, answerOf as missAnswerOf}
 use Rattle.miss.specs.declared.MissAnswer.{MissAnswer}

@@ -1,10 +1,10 @@
--- `keeper::open_list` meets its contract: at each way out, the tests that led there say which answer it is. Assumes nothing.
+-- `open_slots::open_list` meets its contract: at each way out, the tests that led there say which answer it is. Assumes nothing.
 use borrow.Author.Needs.{needs}
 use native.Mathlib.Omega.{arith}
 use Rattle.model.proofs.Cases.{not-true, not-false}
-use Rattle.keeper.proofs.OpenLaws.{list-few, few-slots, refused-slots, refused-short, opened-count}
-use Rattle.keeper.proofs.open_list.Statement.{statement}
-use Rattle.keeper.proofs.open_list.Tie as tie
+use Rattle.open_slots.proofs.OpenLaws.{list-few, few-slots, refused-slots, refused-short, opened-count}
+use Rattle.open_slots.proofs.open_list.Statement.{statement}
+use Rattle.open_slots.proofs.open_list.Tie as tie
 
 returns : tie.Need-returns
 returns c = refused-slots _ _ (c .before .slots-fit .ensures) (not-true (c .if1 .taken))

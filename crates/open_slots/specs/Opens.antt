@@ -14,8 +14,8 @@ use Rattle.checks.specs.declared.refusal.Refusal.{Refusal}
 use Rattle.slots.specs.Slots.{slots}
 use Rattle.slots.specs.Refusals.{slotsRefusal}
 use Rattle.cover.specs.Answers.{numberBytes, outOf}
-use Rattle.keeper.specs.declared.OpenAnswer.{OpenAnswer}
-use Rattle.keeper.specs.declared.OpenAnswer.the-variants.{Refused, Count}
+use Rattle.open_slots.specs.declared.OpenAnswer.{OpenAnswer}
+use Rattle.open_slots.specs.declared.OpenAnswer.the-variants.{Refused, Count}
 
 -- the open slots of the keeper's buffer
 abbrev pub openIn : List ℕ → List ℕ

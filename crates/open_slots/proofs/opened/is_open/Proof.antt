@@ -1,9 +1,9 @@
--- `keeper::opened::is_open` meets its contract: the sequence and the mark lie in the slot's bytes. Assumes nothing.
+-- `open_slots::opened::is_open` meets its contract: the sequence and the mark lie in the slot's bytes. Assumes nothing.
 use borrow.Author.Needs.{needs}
 use borrow.Author.Tests.{eq-eqb, ne-eqb}
 use Rattle.room.proofs.InPlace.{settled-in-place}
-use Rattle.keeper.proofs.opened.is_open.Statement.{statement}
-use Rattle.keeper.proofs.opened.is_open.Tie as tie
+use Rattle.open_slots.proofs.opened.is_open.Statement.{statement}
+use Rattle.open_slots.proofs.opened.is_open.Tie as tie
 
 returns : tie.Need-returns
 returns c = rw (← c .before .sequence-at .ensures, eq-eqb _ _ (c .if1 .taken))

@@ -27,8 +27,8 @@ use Rattle.slots.proofs.FitLaws.{fit-whole}
 use Rattle.cover.specs.Numbers.{Lists}
 use Rattle.cover.specs.Answers.{numberBytes}
 use Rattle.cover.proofs.ListLaws.{Gathered, gathered-none, gathered-few, gathered-passed, gathered-all}
-use Rattle.keeper.specs.Opens.{openIn, openRefusal, Opened}
-use Rattle.keeper.specs.declared.OpenAnswer.the-variants.{Refused, Count}
+use Rattle.open_slots.specs.Opens.{openIn, openRefusal, Opened}
+use Rattle.open_slots.specs.declared.OpenAnswer.the-variants.{Refused, Count}
 
 -- ---- a loop over the slots
 

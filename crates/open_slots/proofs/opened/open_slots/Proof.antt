@@ -1,4 +1,4 @@
--- `keeper::opened::open_slots` meets its contract: the open slots below i are listed. Assumes nothing.
+-- `open_slots::opened::open_slots` meets its contract: the open slots below i are listed. Assumes nothing.
 use borrow.Author.Needs.{needs}
 use mathlib.Core.Logic.{⊎-elim}
 use Prim.Native.Nat.{ℕ, _≤_, _-_}
@@ -6,9 +6,9 @@ use native.Mathlib.Nat.{le-antisymm}
 use native.Mathlib.Omega.{arith}
 use lib.ListN.{length-replicate}
 use Rattle.records.specs.Layout.{mostRules}
-use Rattle.keeper.proofs.OpenLaws.{OpenSoFar, open-none, open-few, open-passed, open-taken, open-done}
-use Rattle.keeper.proofs.opened.open_slots.Statement.{statement}
-use Rattle.keeper.proofs.opened.open_slots.Tie as tie
+use Rattle.open_slots.proofs.OpenLaws.{OpenSoFar, open-none, open-few, open-passed, open-taken, open-done}
+use Rattle.open_slots.proofs.opened.open_slots.Statement.{statement}
+use Rattle.open_slots.proofs.opened.open_slots.Tie as tie
 
 abbrev Inv-loop : tie.InvT-loop
 Inv-loop keeper items₀ count₀ n i₀ items count i = (i ≤ n) × OpenSoFar keeper i items count

@@ -1,0 +1,2 @@
+-- Laws of the open slots.
+pub mod OpenLaws
