@@ -13,7 +13,7 @@ use Rattle.model.specs.Below.{firstBelow}
 use Rattle.model.specs.Pattern.{canonical}
 use Rattle.model.proofs.Cases.{by-cases}
 use Rattle.model.proofs.OrderLaws.{foremost-none, first-missed}
-use Rattle.ternary.proofs.StrayLaws.{canonical-clean, clean-canonical}
+use Rattle.bits.proofs.StrayLaws.{canonical-clean, clean-canonical}
 use Rattle.buffers.specs.Parts.{part}
 use Rattle.records.specs.Layout.{ruleValue, ruleMask, writeValue, writeMask}
 use Rattle.checks.specs.Flaws.{Zeros, firstNonzero, strayIn, flawOf, isFlawed, checkedOf, firstFlawed}

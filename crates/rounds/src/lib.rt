@@ -50,7 +50,7 @@ fn with_counts(pattern: Pattern, fixed: usize) -> Isolated
         value,
         mask,
         fixed,
-        wildcards: ternary::wildcard_bits(mask),
+        wildcards: bits::wildcard_bits(mask),
     }
 }
 
@@ -88,7 +88,7 @@ pub fn isolate_rule(policy: &[u8], key: [u8; KEY_SIZE], number: usize, deps: Num
             }
             p += 1;
         };
-        pattern = ternary::fix_bit(pattern, key, chosen);
+        pattern = bits::fix_bit(pattern, key, chosen);
         standing = left(policy, key, number, chosen, standing);
         fixed += 1;
     }

@@ -1,7 +1,4 @@
 -- Rows byte by byte: how a test of bytes is a test of positions, for every width.
 pub mod ByteLaws
-pub mod StoreLaws
-pub mod CountLaws
 pub mod PatternBytes
-pub mod StrayLaws
 pub mod RowLengths

@@ -11,14 +11,14 @@ use lib.Bits.{bitAnd, bitXor, and-le-l, xor-lt}
 use lib.Dec.{eqb}
 use lib.ListN.{getD}
 use Rattle.model.specs.Below.{allBelow}
-use Rattle.model.specs.Bits.{bitOf, bitAt, Bytes}
-use Rattle.model.specs.Pattern.{exactAt, sameAt, matches, parts, overlap, strayIn}
+use Rattle.model.specs.Bits.{bitOf, Bytes}
+use Rattle.model.specs.Pattern.{exactAt, sameAt, matches, parts, overlap}
 use Rattle.model.proofs.BelowLaws.{Passed}
 use Rattle.model.proofs.BitLaws.{digit-lt}
-use Rattle.ternary.proofs.ByteLaws.{beq-same, on-bits₂, on-bits₃, on-bits₄, bit-and, bit-xor, bit-not}
+use Rattle.ternary.proofs.ByteLaws.{beq-same, on-bits₃, on-bits₄, bit-and, bit-xor}
 use Rattle.ternary.proofs.ByteLaws.{bit-in, passes, by-byte, row-yes, row-no}
 
-bit-of-lt : (x q : ℕ) → bitOf x q < 2
+pub bit-of-lt : (x q : ℕ) → bitOf x q < 2
 bit-of-lt x q = digit-lt x (7 - q)
 
 -- ---- a pattern and a key
@@ -109,36 +109,3 @@ module _ (w : ℕ) (v₁ m₁ v₂ m₂ : List ℕ) where
       let small = xor-lt 8 (getD v₁ i 0) (getD v₂ i 0) (h₁ .byte i) (h₂ .byte i) in
       row-no together w i l
       (together-byte i (lt-of-le-of-lt (and-le-l _ (getD m₂ i 0)) (lt-of-le-of-lt (and-le-l _ (getD m₁ i 0)) small)) ∙ ne-eqb _ 0 ne)
-
--- ---- a value's bits under wildcards
-
--- those of the value's byte
-abbrev stray : ℕ → ℕ → ℕ
-stray v m = bitAnd v (255 - m)
-
-stray-bits : (v m : ℕ) → v < 2 → m < 2 → (eqb m 1 || eqb v 0) ≡ eqb (bitAnd v (1 - m)) 0
-unfolding allBelow
-stray-bits v m p q = beq-same _ _ (on-bits₂ (λ v m. Bool·beq (eqb m 1 || eqb v 0) (eqb (bitAnd v (1 - m)) 0)) refl v m p q)
-
-module _ (value mask : List ℕ) (hv : Bytes value) (hm : Bytes mask) (i : ℕ) where
-  abbrev strays : ℕ
-  strays = stray (getD value i 0) (getD mask i 0)
-
-  abbrev clean : ℕ → Bool
-  clean p = exactAt mask p || eqb (bitAt value p) 0
-
-  clean-at : (q : ℕ) → q < 8 → clean (i * 8 + q) ≡ eqb (bitOf strays q) 0
-  unfolding exactAt
-  clean-at q l =
-      rw (bit-in value i q l, bit-in mask i q l, bit-and (getD value i 0) (255 - getD mask i 0) q, bit-not (getD mask i 0) q (hm .byte i) l)
-      (stray-bits _ _ (bit-of-lt (getD value i 0) q) (bit-of-lt (getD mask i 0) q))
-
-  stray-byte : strayIn value mask i ≡ not (eqb strays 0)
-  unfolding strayIn
-  stray-byte = ap not (by-byte clean i strays (lt-of-le-of-lt (and-le-l _ (255 - getD mask i 0)) (hv .byte i)) clean-at)
-
-  pub stray-no : strays ≡ 0 → strayIn value mask i ≡ false
-  stray-no e = stray-byte ∙ ap not (eq-eqb strays 0 e)
-
-  pub stray-yes : (strays ≡ 0 → ⊥) → strayIn value mask i ≡ true
-  stray-yes ne = stray-byte ∙ ap not (ne-eqb strays 0 ne)

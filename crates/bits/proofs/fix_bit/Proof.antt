@@ -1,9 +1,9 @@
--- `ternary::fix_bit` meets its contract: one byte of each row is stored, and of that byte one bit is new. Assumes nothing.
+-- `bits::fix_bit` meets its contract: one byte of each row is stored, and of that byte one bit is new. Assumes nothing.
 use borrow.Author.Needs.{needs}
 use Rattle.ternary.proofs.ByteLaws.{bytes-of}
-use Rattle.ternary.proofs.StoreLaws.{put-merged, put-raised}
-use Rattle.ternary.proofs.fix_bit.Statement.{statement}
-use Rattle.ternary.proofs.fix_bit.Tie as tie
+use Rattle.bits.proofs.StoreLaws.{put-merged, put-raised}
+use Rattle.bits.proofs.fix_bit.Statement.{statement}
+use Rattle.bits.proofs.fix_bit.Tie as tie
 
 returns : tie.Need-returns
 returns c = record {

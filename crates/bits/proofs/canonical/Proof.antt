@@ -1,8 +1,9 @@
--- `ternary::canonical` meets its contract: its rows are of one length. Assumes nothing.
+-- `bits::canonical` meets its contract: its rows are of one length. Assumes nothing.
 use borrow.Author.Needs.{needs}
-use Rattle.ternary.proofs.RowLengths.{same-long, canonical-yes, canonical-no}
-use Rattle.ternary.proofs.canonical.Statement.{statement}
-use Rattle.ternary.proofs.canonical.Tie as tie
+use Rattle.ternary.proofs.RowLengths.{same-long}
+use Rattle.bits.proofs.RowLengths.{canonical-yes, canonical-no}
+use Rattle.bits.proofs.canonical.Statement.{statement}
+use Rattle.bits.proofs.canonical.Tie as tie
 
 first-stray-requires : tie.Need-first-stray-requires
 first-stray-requires c κs = search (needs, same-long)

@@ -1,4 +1,4 @@
--- `ternary::exact_bits` meets its contract: n is the sum of the ones of the bytes below i. Assumes nothing.
+-- `bits::exact_bits` meets its contract: n is the sum of the ones of the bytes below i. Assumes nothing.
 use borrow.Author.Needs.{needs}
 use mathlib.Core.Path.{_≡_, ap, _∙_}
 use Prim.Native.Nat.{_*_, _≤_, _-_}
@@ -8,10 +8,10 @@ use lib.Count.{ones, ones-le}
 use Rattle.model.specs.Below.{sumBelow}
 use Rattle.model.specs.Bits.{Bytes}
 use Rattle.model.proofs.BelowLaws.{sum-next}
 use Rattle.ternary.proofs.ByteLaws.{bytes-of}
-use Rattle.ternary.proofs.CountLaws.{ones-row}
-use Rattle.ternary.proofs.exact_bits.Statement.{statement}
-use Rattle.ternary.proofs.exact_bits.Tie as tie
+use Rattle.bits.proofs.CountLaws.{ones-row}
+use Rattle.bits.proofs.exact_bits.Statement.{statement}
+use Rattle.bits.proofs.exact_bits.Tie as tie
 
 abbrev Inv-loop : tie.InvT-loop
 Inv-loop mask n₀ i₀ n i = (i ≤ length mask) × (n ≤ 8 * i) × (n ≡ sumBelow (λ k. ones (getD mask k 0)) i)

@@ -1,4 +1,4 @@
--- `ternary::first_stray` meets its contract: no byte below i has a bit under a wildcard. Assumes nothing.
+-- `bits::first_stray` meets its contract: no byte below i has a bit under a wildcard. Assumes nothing.
 use borrow.Author.Needs.{needs}
 use mathlib.Core.Path.{_≡_}
 use mathlib.Core.Bool.{false}
@@ -6,11 +6,11 @@ use Prim.Native.Nat.{_≤_, _-_}
 use lib.ListN.{length}
 use Rattle.model.specs.Pattern.{strayIn}
 use Rattle.model.proofs.BelowLaws.{Passed, passed-none, passed-more}
 use Rattle.ternary.proofs.ByteLaws.{bytes-of}
-use Rattle.ternary.proofs.PatternBytes.{stray-yes, stray-no}
-use Rattle.ternary.proofs.StrayLaws.{stray-found, stray-missed}
-use Rattle.ternary.proofs.first_stray.Statement.{statement}
-use Rattle.ternary.proofs.first_stray.Tie as tie
+use Rattle.bits.proofs.StrayBytes.{stray-yes, stray-no}
+use Rattle.bits.proofs.StrayLaws.{stray-found, stray-missed}
+use Rattle.bits.proofs.first_stray.Statement.{statement}
+use Rattle.bits.proofs.first_stray.Tie as tie
 
 abbrev Inv-loop : tie.InvT-loop
 Inv-loop value mask i₀ i = (i ≤ length value) × Passed (λ k. strayIn value mask k ≡ false) i

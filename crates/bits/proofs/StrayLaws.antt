@@ -14,8 +14,8 @@ use Rattle.model.specs.Pattern.{exactAt, canonical, strayIn, firstStray}
 use Rattle.model.proofs.Cases.{not-true}
 use Rattle.model.proofs.BelowLaws.{Passed, all-at, all-of, all-fails, all-blocks}
 use Rattle.model.proofs.OrderLaws.{foremost-some, foremost-none, first-found, first-missed}
-use Rattle.ternary.specs.Strays.{strayOf}
-use Rattle.ternary.specs.declared.Stray.the-variants.{Clean, At}
+use Rattle.bits.specs.Strays.{strayOf}
+use Rattle.bits.specs.declared.Stray.the-variants.{Clean, At}
 
 -- what each answer says
 pub of-clean : (o : Option ℕ) → Clean ≡ strayOf o → o ≡ none

@@ -1,8 +1,8 @@
--- `ternary::wildcard_bits` meets its contract: the exact bits are no more than the positions. Assumes nothing.
+-- `bits::wildcard_bits` meets its contract: the exact bits are no more than the positions. Assumes nothing.
 use borrow.Author.Needs.{needs}
-use Rattle.ternary.proofs.CountLaws.{exact-le, wildcards-rest}
-use Rattle.ternary.proofs.wildcard_bits.Statement.{statement}
-use Rattle.ternary.proofs.wildcard_bits.Tie as tie
+use Rattle.bits.proofs.CountLaws.{exact-le, wildcards-rest}
+use Rattle.bits.proofs.wildcard_bits.Statement.{statement}
+use Rattle.bits.proofs.wildcard_bits.Tie as tie
 
 sub-result : tie.Need-sub-result
 sub-result c = search (needs, exact-le)

@@ -11,8 +11,8 @@ use Rattle.model.specs.Below.{allBelow, countBelow, sumBelow}
 use Rattle.model.specs.Bits.{digit, bitOf, Bytes}
 use Rattle.model.specs.Pattern.{exactAt, wildcards}
 use Rattle.model.proofs.BelowLaws.{all-at, count-le, count-same, count-blocks}
-use Rattle.ternary.specs.Counts.{exactBits}
+use Rattle.bits.specs.Counts.{exactBits}
 use Rattle.ternary.proofs.ByteLaws.{bit-in}
 
 -- the set bits of a byte are its ones
 ones-byte : (x : ℕ) → x < 256 → countBelow (λ q. eqb (bitOf x q) 1) 8 ≡ ones x

@@ -1,8 +1,8 @@
 -- What the search for a value bit under a wildcard answers. Assumes nothing.
 use mathlib.Core.Option.{Option, none, some}
 use Prim.Native.Nat.{ℕ}
-use Rattle.ternary.specs.declared.Stray.{Stray}
-use Rattle.ternary.specs.declared.Stray.the-variants.{Clean, At}
+use Rattle.bits.specs.declared.Stray.{Stray}
+use Rattle.bits.specs.declared.Stray.the-variants.{Clean, At}
 
 -- the lowest byte with such a bit, if there is one
 abbrev pub strayOf : Option ℕ → Stray

@@ -1,0 +1,4 @@
+-- What the contracts on the bits of a pattern cite.
+pub mod Fixed
+pub mod Strays
+pub mod Counts
