@@ -4,6 +4,7 @@
 #include <stdio.h>
 #include <string.h>
 #include <sys/mman.h>
+#include <unistd.h>
 
 #include "check.h"
 #include "lent.h"
@@ -84,6 +85,10 @@ void test_stack(const struct calls *calls)
     uint8_t *memory = mmap(NULL, PAGE + STACK, PROT_READ | PROT_WRITE, MAP_PRIVATE | MAP_ANONYMOUS, -1, 0);
     size_t most = 0, deepest = 0;
 
+    if (sysconf(_SC_THREAD_STACK_MIN) > STACK) {
+        puts("stack: this machine gives no thread so small a stack (x86-64 does): left out");
+        return;
+    }
     if (memory == MAP_FAILED || mprotect(memory, PAGE, PROT_NONE) != 0) {
         check(0, "memory for a stack");
         return;
