@@ -5,6 +5,7 @@ use crate::structs::WgCount;
 use crate::structs::WgShown;
 use cover::CoverAnswer;
 use decision::ShowAnswer;
+use outcomes::kinds;
 use policy::BestAnswer;
 use policy::PolicyAnswer;
 use records::layout;
@@ -45,7 +46,7 @@ pub fn best_numbers(answer: BestAnswer) -> WgBestAnswer
             refusal: 0,
             place: 0,
             found: 0,
-            rule: structs::NOTHING,
+            rule: kinds::NOTHING,
             action: 0,
         },
         BestAnswer::Rule(rule, action) => WgBestAnswer {
@@ -93,7 +94,7 @@ pub fn shown_numbers(answer: ShowAnswer) -> WgShown
             refusal: 0,
             place: 0,
             source: structs::FROM_NOTHING,
-            number: structs::NOTHING as usize,
+            number: kinds::NOTHING as usize,
             offset: 0,
             length: 0,
         },

@@ -1,8 +1,5 @@
 // The structs that C reads. In each the refusal's number comes first, 0 where the call is accepted, then its place; on a refusal the rest is 0.
 
-// No rule, no slot.
-pub const NOTHING: u16 = 65535;
-
 // A write, a report.
 #[repr(C)]
 pub struct WgDone {

@@ -1,7 +1,7 @@
 // The table's answers as numbers.
-use answers::structs;
 use answers::structs::WgDone;
 use answers::structs::WgFound;
+use outcomes::kinds;
 use received::write::WriteAnswer;
 use table::lookup::LookupAnswer;
 ghost use mathlib.Core.Path.{_≡_};
@@ -24,8 +24,8 @@ pub fn found_numbers(answer: LookupAnswer) -> WgFound
             refusal: 0,
             place: 0,
             hit: 0,
-            slot: structs::NOTHING,
-            rule: structs::NOTHING,
+            slot: kinds::NOTHING,
+            rule: kinds::NOTHING,
             action: 0,
         },
         LookupAnswer::Hit(slot, rule, action) => WgFound {

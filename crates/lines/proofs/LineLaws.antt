@@ -6,9 +6,10 @@ use native.Mathlib.Omega.{arith}
 use borrow.Author.Tests.{eq-eqb, ne-eqb}
 use lib.ListN.{length, drop, getD, set, length-set}
 use lib.Seq.{drop-cons, drop-length, getD-set-same, drop-set-lt}
+use Rattle.model.specs.Trace.{nothing}
 use Rattle.lines.specs.Decimal.{mostDigits, digit, decimalIn, decimal}
 use Rattle.lines.specs.Line.{wordSize, lineSize, textOf, Says, WordPut}
-use Rattle.lines.specs.Printed.{nothing, dash, orDash}
+use Rattle.lines.specs.Printed.{dash, orDash}
 use Rattle.lines.specs.declared.line.Line.{Line}
 use Rattle.lines.proofs.DecimalLaws.{decimal-one, decimal-more, tenth, two-digits}
 

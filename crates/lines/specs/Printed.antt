@@ -4,6 +4,7 @@ use mathlib.Core.List.{List, [], _∷_, _++_}
 use Prim.Native.Nat.{ℕ}
 use lib.Dec.{eqb}
 use Rattle.model.specs.Records.{Outcome, Totals}
+use Rattle.model.specs.Trace.{nothing}
 use Rattle.lines.specs.Decimal.{decimal}
 
 abbrev pub space : ℕ
@@ -20,10 +21,6 @@ abbrev pub lineOf : List (List ℕ) → List ℕ
 lineOf [] = newline ∷ []
 lineOf (word ∷ []) = word ++ (newline ∷ [])
 lineOf (word ∷ next ∷ words) = word ++ (space ∷ lineOf (next ∷ words))
-
--- no rule, no slot or no evicted rule
-abbrev pub nothing : ℕ
-nothing = 65535
 
 -- a rule or slot number, or a dash where there is none
 unfoldable pub orDash : ℕ → List ℕ

@@ -1,4 +1,5 @@
 // A line of text, built from its end.
+use outcomes::kinds;
 ghost use mathlib.Core.Path.{_≡_};
 ghost use mathlib.Core.List.{[], _∷_, _++_};
 ghost use Prim.Native.Nat.{_+_, _%_, _≤_};
@@ -12,9 +13,6 @@ const MOST_DIGITS: usize = 20;
 
 // Five words, each with a space or a newline after it.
 pub const LINE_SIZE: usize = 5 * (MOST_DIGITS + 1);
-
-// The number that stands for no rule and for no slot.
-const NOTHING: u16 = 65535;
 
 // The text is the bytes from `at` on.
 pub struct Line {
@@ -85,7 +83,7 @@ pub(crate) fn with_place(line: Line, n: u16, after: u8) -> Line
     requires { ⌜ (wordSize ≤ line .at) × (line .at ≤ lineSize) ⌝ }
     ensures { λ r. ⌜ WordPut (orDash n) after line r ⌝ }
 {
-    if n == NOTHING {
+    if n == kinds::NOTHING {
         return with_byte(with_byte(line, after), b'-');
     }
     with_number(line, n as u64, after)

@@ -29,7 +29,8 @@ use Rattle.policy.specs.Refusals.{AcceptedBytes}
 use Rattle.keeper.specs.Reports.{reportRefused, reportAnswer, reportBytes, Reported}
 use Rattle.keeper.specs.declared.ReportAnswer.{ReportAnswer}
 use Rattle.keeper.proofs.ReportLaws.{not-refused, accepted-of, report-meaning}
-use Rattle.verdict.specs.Decisions.{givesWrite, deciding, missIn}
+use Rattle.outcomes.specs.Outcomes.{givesWrite}
+use Rattle.verdict.specs.Decisions.{deciding, missIn}
 use Rattle.miss.specs.Answers.{partsRefusal, roomRefusal, missRefused, asStruct, missBytes, outWith, Missed}
 use Rattle.miss.specs.declared.MissAnswer.{MissAnswer}
 use Rattle.miss.specs.declared.MissAnswer.the-variants.{Outcome}

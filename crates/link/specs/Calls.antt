@@ -21,7 +21,7 @@ use Rattle.keeper.specs.Reports.{reportRefused, Reported}
 use Rattle.open_slots.specs.Opens.{Opened}
 use Rattle.keeper.specs.declared.ReportAnswer.{ReportAnswer}
 use Rattle.open_slots.specs.declared.OpenAnswer.{OpenAnswer}
-use Rattle.verdict.specs.Decisions.{givesWrite}
+use Rattle.outcomes.specs.Outcomes.{givesWrite}
 use Rattle.miss.specs.Answers.{missRefused, Missed}
 use Rattle.miss.specs.declared.MissAnswer.{MissAnswer}
 use Rattle.miss.specs.declared.MissAnswer.the-variants.{Refused as MissRefused, Outcome}

@@ -25,14 +25,14 @@ use Rattle.slots.specs.Refusals.{slotsFit, slotsRefusal}
 use Rattle.slots.proofs.FitLaws.{slots-accepted}
 use Rattle.messages.specs.Writes.{encodeWrite}
 use Rattle.messages.specs.Structs.{asWrite}
-use Rattle.outcomes.specs.Outcomes.{asOutcome}
+use Rattle.outcomes.specs.Outcomes.{asOutcome, givesWrite}
 use Rattle.entries.specs.Puts.{EntryPut}
 use Rattle.policy.specs.Refusals.{policyRefusal, keyRefusal}
 use Rattle.policy.specs.Answers.{checkAnswer, bestRefusal}
 use Rattle.policy.specs.declared.PolicyAnswer.{PolicyAnswer}
 use Rattle.policy.specs.declared.PolicyAnswer.the-variants.{Refused as BadPolicy, Rules}
 use Rattle.policy.proofs.CheckLaws.{check-refused, check-passed, passed-few}
-use Rattle.verdict.specs.Decisions.{Fine, givesWrite, deciding, missIn, DecidedAs}
+use Rattle.verdict.specs.Decisions.{Fine, deciding, missIn, DecidedAs}
 use Rattle.miss.specs.Answers.{partsRefusal, checkedOf, roomRefusal, missRefused, answerOf, outWith, MissedAs, OnMiss, Missed}
 use Rattle.miss.specs.Answers.{placesEntry, EntryPlaced, CarriedOut}
 use Rattle.verdict.specs.declared.Decision.{Decision}

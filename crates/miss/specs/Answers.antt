@@ -19,10 +19,10 @@ use Rattle.slots.specs.Slots.{slots, putSlot}
 use Rattle.slots.specs.Refusals.{slotsRefusal}
 use Rattle.messages.specs.Writes.{encodeWrite}
 use Rattle.messages.specs.Structs.{asWrite}
-use Rattle.outcomes.specs.Outcomes.{asOutcome}
+use Rattle.outcomes.specs.Outcomes.{asOutcome, givesWrite}
 use Rattle.outcomes.specs.declared.Outcome.{Outcome as OutcomeStruct}
 use Rattle.policy.specs.Answers.{bestRefusal}
-use Rattle.verdict.specs.Decisions.{givesWrite, deciding, missIn}
+use Rattle.verdict.specs.Decisions.{deciding, missIn}
 use Rattle.verdict.specs.declared.Decision.{Decision}
 use Rattle.miss.specs.declared.Parts.{Parts}
 use Rattle.miss.specs.declared.Parts.the-variants.{Refused as PartRefused, Fine}

@@ -11,7 +11,8 @@ ghost use Prim.Native.Nat.{_<_};
 ghost use Rattle.ternary.specs.Sizes.{keySize};
 ghost use Rattle.slots.specs.Slots.{slotCount};
 ghost use Rattle.messages.specs.Structs.{asWrite};
-ghost use Rattle.verdict.specs.Decisions.{Fine, givesWrite};
+ghost use Rattle.outcomes.specs.Outcomes.{givesWrite};
+ghost use Rattle.verdict.specs.Decisions.{Fine};
 ghost use Rattle.miss.specs.Answers.{checkedOf, partsRefusal, EntryPlaced, CarriedOut, OnMiss, Missed};
 
 // A miss's refusal, or its outcome.
@@ -53,7 +54,7 @@ pub fn place_entry(keeper: &mut [u8], outcome: u8, x: Write)
     requires { ⌜ (x .slot < slotCount keySize (now keeper)) × (givesWrite outcome ≡ true) ⌝ }
     ensures { λ _. ⌜ EntryPlaced outcome (asWrite x) (now (keeper .entry)) (now (keeper .exit)) ⌝ }
 {
-    if outcome != verdict::kinds::AGAIN {
+    if outcome != outcomes::kinds::AGAIN {
         entries::put_entry(keeper, x);
     }
 }
@@ -65,7 +66,7 @@ fn carry_out(d: Decision, keeper: &mut [u8], out: &mut [u8]) -> MissAnswer
 {
     let outcome = d.outcome;
     let write = d.write;
-    if !verdict::kinds::gives_write(outcome.outcome) {
+    if !outcomes::kinds::gives_write(outcome.outcome) {
         return MissAnswer::Outcome(outcome);
     }
     if out.len() < layout::WRITE_SIZE {

@@ -1,6 +1,8 @@
 -- Outcomes: what a run tells of each packet. Assumes nothing.
 use Prim.Native.Nat.{ℕ, _^_, _<_}
+use mathlib.Core.Bool.{Bool, not, _&&_}
 use mathlib.Core.List.{List, [], _∷_, _++_}
+use lib.Dec.{eqb}
 use lib.ListN.{getD}
 use Rattle.model.specs.Records.{Outcome}
 use Rattle.buffers.specs.Numbers.{be, toBe}
@@ -38,3 +40,7 @@ pub record OutcomeFits (x : Outcome) : Type 0 where
 -- the code's struct as the model's record
 abbrev pub asOutcome : OutcomeStruct → Outcome
 asOutcome x = record { outcome = x .outcome; action = x .action; rule = x .rule; slot = x .slot; evicted = x .evicted }
+
+-- in outcomes 0 and 4 no write is given
+unfoldable pub givesWrite : ℕ → Bool
+givesWrite outcome = not (eqb outcome 0) && not (eqb outcome 4)

@@ -7,6 +7,8 @@ ghost use Rattle.buffers.specs.Parts.{splice};
 ghost use Rattle.records.specs.Layout.{outcomeSize};
 ghost use Rattle.outcomes.specs.Outcomes.{decodeOutcome, encodeOutcome, asOutcome};
 
+pub mod kinds;
+
 pub struct Outcome {
     pub outcome: u8,
     pub action: u16,

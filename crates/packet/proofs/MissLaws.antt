@@ -12,8 +12,8 @@ use Rattle.model.proofs.Cases.{by-cases, clash}
 use Rattle.ternary.specs.Sizes.{keySize}
 use Rattle.slots.specs.Slots.{slots}
 use Rattle.messages.specs.Structs.{asWrite}
-use Rattle.outcomes.specs.Outcomes.{asOutcome}
-use Rattle.verdict.specs.Decisions.{givesWrite, deciding, missIn, DecidedAs}
+use Rattle.outcomes.specs.Outcomes.{asOutcome, givesWrite}
+use Rattle.verdict.specs.Decisions.{deciding, missIn, DecidedAs}
 use Rattle.miss.specs.Answers.{placesEntry, EntryPlaced}
 use Rattle.verdict.specs.declared.Decision.{Decision}
 use Rattle.packet.specs.Packets.{endsIn, Became, sentEnds, missedOutcome, missedEnds}

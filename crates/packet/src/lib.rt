@@ -34,7 +34,7 @@ fn missed(policy: &[u8], key: &[u8], table: &mut [u8], keeper: &mut [u8]) -> Out
     let d = verdict::decide(policy, key, keeper);
     let outcome = d.outcome;
     let write = d.write;
-    if verdict::kinds::gives_write(outcome.outcome) {
+    if outcomes::kinds::gives_write(outcome.outcome) {
         miss::place_entry(keeper, outcome.outcome, write);
         send(write, table, keeper);
     }
@@ -56,11 +56,11 @@ pub fn one_packet(policy: &[u8], key: &[u8], table: &mut [u8], keeper: &mut [u8]
     ) {
         keeper::report(keeper, &report);
         return Outcome {
-            outcome: verdict::kinds::HIT,
+            outcome: outcomes::kinds::HIT,
             action,
             rule,
             slot,
-            evicted: verdict::kinds::NOTHING,
+            evicted: outcomes::kinds::NOTHING,
         };
     }
     missed(policy, key, table, keeper)

@@ -1,6 +1,6 @@
 // The totals that runs advance.
 use outcomes::Outcome;
-use verdict::kinds;
+use outcomes::kinds;
 ghost use mathlib.Core.Path.{_≡_};
 ghost use mathlib.Core.List.{[], _∷_};
 ghost use Prim.Native.Nat.{_+_};

@@ -1,6 +1,6 @@
 -- What a miss comes to, by value, in the words of the model. Assumes nothing.
 use mathlib.Core.Path.{_≡_}
-use mathlib.Core.Bool.{Bool, not, cond, _&&_}
+use mathlib.Core.Bool.{cond}
 use mathlib.Core.List.{List}
 use mathlib.Core.Option.{Option, none, some}
 use Prim.Native.Nat.{ℕ, _≤_, _<_}
@@ -20,10 +20,6 @@ use Rattle.messages.specs.declared.write.Write.{Write as WriteStruct}
 use Rattle.outcomes.specs.Outcomes.{asOutcome}
 use Rattle.rounds.specs.Ready.{Ready}
 use Rattle.verdict.specs.declared.Decision.{Decision}
-
--- in outcomes 0 and 4 no write is given
-unfoldable pub givesWrite : ℕ → Bool
-givesWrite outcome = not (eqb outcome 0) && not (eqb outcome 4)
 
 -- ---- what is asked of the parts
 

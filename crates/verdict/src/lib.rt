@@ -3,6 +3,7 @@ use cover::numbers::wide;
 use holding::Holding;
 use messages::write::Write;
 use outcomes::Outcome;
+use outcomes::kinds;
 use records::layout;
 use slots::slot::slot_at;
 ghost use mathlib.Core.Path.{_≡_};
@@ -17,7 +18,8 @@ ghost use Rattle.slots.specs.Refusals.{WholeSlots};
 ghost use Rattle.outcomes.specs.Outcomes.{asOutcome};
 ghost use Rattle.verdict.specs.Decisions.{Fine, RuleFor, DecidedAs, NoWrite, placedOutcome, placeMiss, missWith, ruleMiss, missIn};
 
-pub mod kinds;
+// The last sequence there is.
+const LAST_SEQUENCE: u32 = 4294967295;
 
 // The outcome of a miss, and the write that is given in outcomes 2, 3 and 5; in the others it is all 0.
 pub struct Decision {
@@ -137,7 +139,7 @@ fn fresh_entry(policy: &[u8], key: &[u8], keeper: &[u8], number: u16, action: u1
         (missWith (now (policy .entry)) (now (key .entry)) (now (keeper .entry)) (some number) none) r ⌝ }
 {
     let last = room::largest_sequence(keeper);
-    if last == kinds::LAST_SEQUENCE {
+    if last == LAST_SEQUENCE {
         return no_write(kinds::USED_UP, action, number);
     }
     place_entry(policy, key, keeper, number, action, last + 1)

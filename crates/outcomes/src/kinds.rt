@@ -1,6 +1,6 @@
 // The outcomes of a packet; all but the hit are of a miss.
 ghost use mathlib.Core.Path.{_≡_};
-ghost use Rattle.verdict.specs.Decisions.{givesWrite};
+ghost use Rattle.outcomes.specs.Outcomes.{givesWrite};
 
 // No rule.
 pub const NO_RULE: u8 = 0;
@@ -16,8 +16,6 @@ pub const USED_UP: u8 = 4;
 pub const AGAIN: u8 = 5;
 // No rule, no slot, no evicted rule.
 pub const NOTHING: u16 = 65535;
-// The last sequence there is.
-pub const LAST_SEQUENCE: u32 = 4294967295;
 
 // Whether a write is given.
 pub fn gives_write(outcome: u8) -> bool

@@ -1,8 +1,8 @@
--- `verdict::kinds::gives_write` meets its contract: outcomes 0 and 4 give none. Assumes nothing.
+-- `outcomes::kinds::gives_write` meets its contract: outcomes 0 and 4 give none. Assumes nothing.
 use borrow.Author.Tests.{eq-eqb, ne-eqb}
-use Rattle.verdict.specs.Decisions.{givesWrite}
-use Rattle.verdict.proofs.kinds.gives_write.Statement.{statement}
-use Rattle.verdict.proofs.kinds.gives_write.Tie as tie
+use Rattle.outcomes.specs.Outcomes.{givesWrite}
+use Rattle.outcomes.proofs.kinds.gives_write.Statement.{statement}
+use Rattle.outcomes.proofs.kinds.gives_write.Tie as tie
 
 returns : tie.Need-returns
 unfolding givesWrite
