@@ -1,5 +1,7 @@
--- Laws of numbers, of parts, and of records of one size.
+-- Laws of numbers, of parts, of bytes, and of records of one size.
 pub mod NumberLaws
 pub mod PartLaws
+pub mod ByteLaws
 pub mod FieldLaws
 pub mod RecordLaws
+pub mod RowLaws

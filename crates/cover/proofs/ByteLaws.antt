@@ -1,26 +1,17 @@
 -- The bytes of a list of numbers, written one number after the other. Assumes nothing.
 use Prim.Native.Nat.{ℕ, _+_, _*_, _≤_, _<_}
-use mathlib.Core.Path.{_≡_, refl, sym, ap, _∙_}
-use mathlib.Core.List.{List, [], _∷_, _++_, append-assoc, append-nil}
+use mathlib.Core.Path.{_≡_, refl, ap, _∙_}
+use mathlib.Core.List.{List}
 use native.Mathlib.Omega.{arith}
 use native.Mathlib.Numerals.{add-one}
-use lib.ListN.{length, take, getD, length-append}
+use lib.ListN.{length, take, getD}
 use lib.Seq.{take-suc, length-take-le}
 use Rattle.buffers.specs.Numbers.{toBe}
 use Rattle.buffers.specs.Parts.{splice, spelled}
 use Rattle.buffers.proofs.PartLaws.{length-splice, splice-next}
+use Rattle.buffers.proofs.RowLaws.{spelled-more, length-spelled}
 use Rattle.buffers.proofs.NumberLaws.{toBe-length}
 use Rattle.cover.specs.Answers.{numberBytes}
-
-bytes-more : (xs : List ℕ) (x : ℕ) → numberBytes (xs ++ (x ∷ [])) ≡ numberBytes xs ++ toBe 2 x
-unfolding spelled
-bytes-more [] x = append-nil (toBe 2 x)
-bytes-more (y ∷ xs) x = ap (λ (r : List ℕ). toBe 2 y ++ r) (bytes-more xs x) ∙ sym (append-assoc (toBe 2 y) (numberBytes xs) (toBe 2 x))
-
-bytes-length : (xs : List ℕ) → length (numberBytes xs) ≡ 2 * length xs
-unfolding spelled
-bytes-length [] = refl
-bytes-length (x ∷ xs) = simp length-append (omega (arith, toBe-length 2 x, bytes-length xs))
 
 module _ (items out₀ : List ℕ) where
   -- the first i numbers are written
@@ -37,11 +28,11 @@ module _ (items out₀ : List ℕ) where
   written-more {i} {out} l fits is e =
       let x : List ℕ = toBe 2 (getD items i 0) in
       let n : length x ≡ 2 = toBe-length 2 (getD items i 0) in
-      let m : length (numberBytes (take i items)) ≡ 2 * i = bytes-length (take i items) ∙ rw (length-take-le i items (omega arith)) in
+      let m : length (numberBytes (take i items)) ≡ 2 * i = length-spelled (toBe 2) 2 (toBe-length 2) (take i items) ∙ rw (length-take-le i items (omega arith)) in
       record {
         long = ap length e ∙ length-splice (2 * i) x out (omega (arith, n, is .long)) ∙ is .long;
         bytes = e
             ∙ ap (splice (2 * i) x) (is .bytes)
             ∙ splice-next 0 (2 * i) (numberBytes (take i items)) x out₀ (omega (arith, m)) (omega (arith, n))
-            ∙ rw (add-one, take-suc items i 0 l, bytes-more);
+            ∙ rw (add-one, take-suc items i 0 l, spelled-more);
       }

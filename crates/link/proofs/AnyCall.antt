@@ -13,6 +13,7 @@ use Rattle.model.specs.Totals.{totalsAfter}
 use Rattle.model.proofs.Cases.{by-cases}
 use Rattle.ternary.specs.Sizes.{keySize}
 use Rattle.buffers.specs.Parts.{splice, spelled}
+use Rattle.buffers.proofs.ByteLaws.{four-below}
 use Rattle.records.specs.Layout.{reportHits}
 use Rattle.records.specs.Traces.{packetCount, keys}
 use Rattle.checks.specs.Refusals.{unlessRefused}
@@ -20,7 +21,8 @@ use Rattle.checks.specs.declared.refusal.Refusal.{Refusal}
 use Rattle.checks.proofs.RefusalLaws.{none-first}
 use Rattle.slots.specs.Slots.{encodeSlot, slotCount, slots, putSlot}
 use Rattle.slots.proofs.SlotLaws.{slots-put}
-use Rattle.slots.proofs.ByteSlots.{ByteSlot, confirmed-byte, four-below}
+use Rattle.slots.proofs.ByteSlots.{ByteSlot, confirmed-byte}
+use Rattle.slots.proofs.SlotBytes.{spelled-slots}
 use Rattle.messages.specs.Reports.{decodeReport}
 use Rattle.outcomes.specs.Outcomes.{encodeOutcome}
 use Rattle.policy.specs.Refusals.{policyRefusal, keyRefusal}
@@ -39,7 +41,6 @@ use Rattle.trace.specs.declared.RunAnswer.the-variants.{Refused, Packets}
 use Rattle.trace.specs.declared.Ran.{Ran}
 use Rattle.link.specs.Calls.{State}
 use Rattle.link.specs.AnyCall.{AnyCall}
-use Rattle.link.proofs.SlotBytes.{spelled-slots}
 use Rattle.link.proofs.PacketBytes.{trace-byte}
 use Rattle.link.proofs.MissBytes.{MissFits, miss-fits}
 use Rattle.link.proofs.Meaning.{Formed, keeper-whole, keeper-room, keeper-slots, both-slots}

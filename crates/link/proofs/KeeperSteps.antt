@@ -16,13 +16,14 @@ use Rattle.model.specs.World.{miss as missEvent, reportArrives, step}
 use Rattle.model.specs.Trace.{missOutcome}
 use Rattle.model.proofs.Cases.{by-cases, cond-elim, not-true}
 use Rattle.ternary.specs.Sizes.{keySize}
+use Rattle.buffers.proofs.ByteLaws.{four-below}
 use Rattle.records.specs.Layout.{writeSize, reportHits}
 use Rattle.checks.specs.Refusals.{need}
 use Rattle.checks.specs.declared.refusal.Refusal.{Refusal}
 use Rattle.checks.proofs.RefusalLaws.{none-first, need-none}
 use Rattle.slots.specs.Slots.{slotCount, slots, putSlot}
 use Rattle.slots.proofs.SlotLaws.{length-put-slot}
-use Rattle.slots.proofs.ByteSlots.{ByteSlot, confirmed-byte, four-below, put-bytes}
+use Rattle.slots.proofs.ByteSlots.{ByteSlot, confirmed-byte, put-bytes}
 use Rattle.messages.specs.Writes.{decodeWrite}
 use Rattle.messages.specs.Reports.{decodeReport}
 use Rattle.policy.specs.Refusals.{AcceptedBytes}

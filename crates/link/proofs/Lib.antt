@@ -1,6 +1,5 @@
 -- Every call of a sequence is one event of the model, or a run of several, so what the model keeps holds of the bytes. In reading order.
 pub mod MessageBytes
-pub mod SlotBytes
 pub mod MissBytes
 pub mod PacketBytes
 pub mod Given

@@ -13,12 +13,12 @@ use Rattle.ternary.specs.Sizes.{keySize, positions}
 use Rattle.records.specs.Layout.{slotSize, mostSlots}
 use Rattle.slots.specs.Slots.{slotCount, slots}
 use Rattle.slots.specs.Refusals.{WholeSlots}
+use Rattle.slots.proofs.SlotBytes.{ByteSlots, slots-byte}
 use Rattle.messages.specs.Writes.{decodeWrite}
 use Rattle.messages.specs.Reports.{decodeReport}
 use Rattle.packet.specs.Packets.{endsIn}
 use Rattle.link.specs.Calls.{State}
 use Rattle.link.proofs.MessageBytes.{WriteBytes, ReportBytes}
-use Rattle.link.proofs.SlotBytes.{ByteSlots, slots-byte}
 use Rattle.link.proofs.PacketBytes.{ByteEnds}
 use Rattle.link.proofs.Given.{Gives, sent-formed}
 

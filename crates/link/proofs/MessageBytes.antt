@@ -12,9 +12,9 @@ use Rattle.buffers.specs.Numbers.{toBe}
 use Rattle.buffers.specs.Parts.{splice}
 use Rattle.buffers.proofs.PartLaws.{part-of-splice}
 use Rattle.buffers.proofs.FieldLaws.{after-rows, byte-past}
+use Rattle.buffers.proofs.ByteLaws.{byte-more, byte-none, append-bytes, toBe-bytes}
 use Rattle.records.specs.Layout.{writeKind, writeValue, writeAction, writeSize, isWrite, reportKind, reportZero, reportSize, isReport}
 use Rattle.checks.specs.Flaws.{Zeros, writeSpares}
-use Rattle.slots.proofs.ByteSlots.{byte-more, byte-none, append-bytes, toBe-bytes}
 use Rattle.messages.specs.Writes.{decodeWrite, encodeWrite, WriteFits}
 use Rattle.messages.specs.Reports.{decodeReport, encodeReport, ReportFits}
 use Rattle.messages.proofs.WriteLaws.{decode-encode-write, length-encode-write}

@@ -1,55 +1,37 @@
 -- What a miss places in the keeper and gives is what bytes can hold. Assumes nothing.
 use mathlib.Core.Path.{_≡_, refl, _∙_}
 use mathlib.Core.Bool.{Bool, true, false}
-use mathlib.Core.List.{List, [], _∷_}
+use mathlib.Core.List.{List}
 use mathlib.Core.Option.{Option, none, some}
-use Prim.Native.Nat.{ℕ, zero, suc, _+_, _*_, _/_, _%_, _-_, _^_, _≤_, _<_}
+use Prim.Native.Nat.{ℕ, _+_, _*_, _^_, _≤_, _<_}
 use native.Mathlib.Omega.{arith}
 use lib.Dec.{ltb, eqb}
-use lib.ListN.{length, getD, set}
+use lib.ListN.{length}
 use borrow.Author.Tests.{eqb-false, ltb-true, ltb-false}
-use Rattle.model.specs.Bits.{Bytes, bitAt, putBit, withBits}
+use Rattle.model.specs.Bits.{Bytes, bitAt}
 use Rattle.model.specs.Records.{Slot, writeFor, written, entryOf, slotAt}
 use Rattle.model.specs.Policy.{Rule, ruleAt, best}
 use Rattle.model.specs.Isolate.{isolatedAt, isolate}
 use Rattle.model.specs.Ends.{firstFor, top, largest, roomIn, Miss, noRule, again, place, usedUp, missOf, nextEntry, onMiss}
 use Rattle.model.proofs.Cases.{by-cases}
-use Rattle.model.proofs.BitLaws.{bit-lt, put-lt, length-with}
+use Rattle.model.proofs.BitLaws.{bit-lt, length-with}
 use Rattle.model.proofs.PolicyLaws.{best-iff}
-use Rattle.model.proofs.Slots.{found, roomIn-lt, live-inside}
+use Rattle.model.proofs.Slots.{found, largest-le, roomIn-lt, live-inside}
 use Rattle.ternary.specs.Sizes.{keySize, positions}
 use Rattle.buffers.proofs.PartLaws.{part-bytes}
+use Rattle.buffers.proofs.ByteLaws.{fixed-bytes, two-below}
 use Rattle.records.specs.Layout.{ruleSize, ruleValue, ruleMask, ruleAction}
 use Rattle.records.specs.Rules.{ruleCount, rules}
 use Rattle.records.proofs.RuleLaws.{rule-count, value-in-place, mask-in-place, action-in-place}
 use Rattle.slots.specs.Slots.{slotCount}
 use Rattle.slots.specs.Refusals.{WholeSlots}
-use Rattle.slots.proofs.ByteSlots.{ByteSlot, byte-more, two-below}
+use Rattle.slots.proofs.ByteSlots.{ByteSlot}
+use Rattle.slots.proofs.SlotBytes.{ByteSlots}
 use Rattle.policy.specs.Refusals.{AcceptedBytes}
 use Rattle.verdict.specs.Decisions.{deciding}
 use Rattle.link.proofs.MessageBytes.{ByteWrite}
-use Rattle.link.proofs.SlotBytes.{ByteSlots}
-
--- ---- rows with some bits fixed
-
-set-bytes : (xs : List ℕ) (i v : ℕ) → v < 256 → Bytes xs → Bytes (set xs i v)
-set-bytes [] i v l h = h
-set-bytes (x ∷ xs) zero v l h = byte-more l (record { byte = λ i. h .byte (suc i) })
-set-bytes (x ∷ xs) (suc i) v l h = byte-more (h .byte 0) (set-bytes xs i v l (record { byte = λ i. h .byte (suc i) }))
-
-fixed-bytes : (f : ℕ → ℕ) → ((p : ℕ) → f p < 2) → (row ps : List ℕ) → Bytes row → Bytes (withBits f row ps)
-unfolding withBits putBit
-fixed-bytes f low row [] h = h
-fixed-bytes f low row (p ∷ ps) h =
-    fixed-bytes f low (putBit row p (f p)) ps
-    (set-bytes row (p / 8) _ (put-lt 8 (getD row (p / 8) 0) (7 - p % 8) (f p) (h .byte (p / 8)) (omega arith) (low p)) h)
 
 -- ---- the slots of an end
-
-largest-le : (s : List Slot) (b : ℕ) → ((i : ℕ) → slotAt s i .sequence ≤ b) → largest s ≤ b
-unfolding largest
-largest-le [] b e = omega arith
-largest-le (x ∷ xs) b e = omega (arith, e 0, largest-le xs b (λ i. e (suc i)))
 
 module _ {count : ℕ} {k : List Slot} (h : ByteSlots count k) where
   sequence-low : (i : ℕ) → slotAt k i .sequence ≤ top

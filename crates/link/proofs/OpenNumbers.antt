@@ -1,15 +1,13 @@
 -- What an accepted open call says: the numbers of the open slots, read from its output. Assumes nothing.
-use mathlib.Core.Path.{_≡_, refl, sym, _∙_}
+use mathlib.Core.Path.{_≡_, refl, _∙_}
 use mathlib.Core.Bool.{true}
 use mathlib.Core.List.{List, [], _∷_, _++_}
 use mathlib.Core.Option.{Option, none, some}
 use Prim.Native.Nat.{ℕ, zero, suc, _*_, _^_, _<_}
 use native.Mathlib.Omega.{arith}
-use lib.Dec.{eqb}
 use lib.ListN.{length, getD}
-use borrow.Author.Tests.{eqb-true}
 use Rattle.model.specs.Below.{elem}
-use Rattle.model.proofs.Cases.{or-cases, clash}
+use Rattle.model.proofs.BelowLaws.{place-in}
 use Rattle.buffers.specs.Numbers.{be}
 use Rattle.buffers.specs.Parts.{part, splice, spelled}
 use Rattle.buffers.proofs.NumberLaws.{be-toBe}
@@ -19,16 +17,7 @@ use Rattle.cover.specs.Answers.{numberBytes}
 use Rattle.open_slots.specs.Opens.{openIn, openRefusal, answerOf, Opened}
 use Rattle.open_slots.specs.declared.OpenAnswer.the-variants.{Count}
 
--- ---- a list, and its numbers of two bytes each
-
--- a member stands somewhere in the list
-place-in : (i : ℕ) (xs : List ℕ) → elem i xs ≡ true → (j : ℕ) × (j < length xs) × (getD xs j 0 ≡ i)
-unfolding elem
-place-in i [] e = clash e refl
-place-in i (x ∷ xs) e =
-    or-cases (eqb i x) (elem i xs) e
-    (λ t. (0, omega arith, sym (eqb-true i x t)))
-    (λ t. let r = place-in i xs t in (suc (r .0), omega (arith, r .1), r .2))
+-- ---- a list as numbers of two bytes each
 
 number-at : (xs rest : List ℕ) (j : ℕ) → j < length xs → getD xs j 0 < 2 ^ 16 → be (part 2 (2 * j) (numberBytes xs ++ rest)) ≡ getD xs j 0
 unfolding spelled

@@ -14,6 +14,7 @@ use Rattle.records.specs.Layout.{slotSize}
 use Rattle.records.specs.Traces.{keys}
 use Rattle.checks.specs.declared.refusal.Refusal.{Refusal}
 use Rattle.slots.specs.Slots.{encodeSlot}
+use Rattle.slots.proofs.SlotBytes.{ByteSlots, spelled-long, spelled-bytes}
 use Rattle.policy.specs.Refusals.{AcceptedBytes}
 use Rattle.verdict.specs.Decisions.{deciding}
 use Rattle.packet.specs.Packets.{endsIn}
@@ -22,7 +23,6 @@ use Rattle.trace.specs.Runs.{endsOf, Shown, runOf, RunIs}
 use Rattle.trace.specs.declared.Ran.{Ran}
 use Rattle.link.specs.Calls.{State, after}
 use Rattle.link.specs.Calls.{run as runCall}
-use Rattle.link.proofs.SlotBytes.{ByteSlots, spelled-long, spelled-bytes}
 use Rattle.link.proofs.PacketBytes.{trace-byte}
 use Rattle.link.proofs.Grown.{Grown, grown-step, grown-run}
 use Rattle.link.proofs.Meaning.{meaning, Formed, Replaced, Stepped, both-slots, stayed}

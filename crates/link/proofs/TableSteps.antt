@@ -16,6 +16,7 @@ use Rattle.slots.specs.Slots.{slotCount, slots}
 use Rattle.slots.specs.Refusals.{WholeSlots}
 use Rattle.slots.proofs.SlotLaws.{slot-count}
 use Rattle.slots.proofs.ByteSlots.{ByteSlot, counted-byte}
+use Rattle.slots.proofs.SlotBytes.{slots-byte}
 use Rattle.messages.specs.Writes.{decodeWrite}
 use Rattle.messages.specs.Reports.{decodeReport, ReportFits}
 use Rattle.table.specs.Lookups.{lookupRefusal, lookupAnswer, tableAfterLookup, LookedUp}
@@ -28,7 +29,6 @@ use Rattle.received.proofs.AfterLaws.{after-lookup, after-write}
 use Rattle.link.specs.Calls.{State, lookupGave, writeGave, after}
 use Rattle.link.specs.Calls.{lookup as lookupCall, write as writeCall}
 use Rattle.link.proofs.MessageBytes.{ReportBytes}
-use Rattle.link.proofs.SlotBytes.{slots-byte}
 use Rattle.link.proofs.Given.{Gives, gives-none, gives-report, sent-meant, place-of}
 use Rattle.link.proofs.Meaning.{meaning, same-world, Formed, Replaced, Stepped, whole-of, table-whole, table-slots, stayed, table-formed}
 

@@ -1,26 +1,16 @@
 -- Lines written one after another from an output's start. Assumes nothing.
-use mathlib.Core.Path.{_≡_, refl, sym, ap, _∙_}
-use mathlib.Core.List.{List, [], _∷_, _++_, append-assoc, append-nil}
+use mathlib.Core.Path.{_≡_, refl, ap, _∙_}
+use mathlib.Core.List.{List, _++_}
 use Prim.Native.Nat.{ℕ, suc, _+_, _-_, _*_, _≤_, _<_}
-use native.Mathlib.Nat.{mul-suc}
 use native.Mathlib.Numerals.{add-one}
 use native.Mathlib.Omega.{arith}
 use lib.ListN.{length, take, drop, getD, length-append, length-drop}
 use lib.Seq.{take-suc, take-all}
 use Rattle.buffers.specs.Parts.{splice, spelled}
-use Rattle.buffers.proofs.PartLaws.{splice-next, length-splice}
+use Rattle.buffers.proofs.PartLaws.{splice-next}
+use Rattle.buffers.proofs.RowLaws.{spelled-more}
 use Rattle.lines.specs.Line.{lineSize, textOf, Says}
 use Rattle.lines.specs.declared.line.Line.{Line}
-
--- the spelling of two lists, one after the other
-spelled-append : {A : Type 0} (f : A → List ℕ) (xs ys : List A) → spelled f (xs ++ ys) ≡ spelled f xs ++ spelled f ys
-unfolding spelled
-spelled-append f [] ys = refl
-spelled-append f (x ∷ xs) ys = ap (λ (l : List ℕ). f x ++ l) (spelled-append f xs ys) ∙ sym (append-assoc (f x) (spelled f xs) (spelled f ys))
-
-one : {A : Type 0} (f : A → List ℕ) (x : A) → spelled f (x ∷ []) ≡ f x
-unfolding spelled
-one f x = append-nil (f x)
 
 -- a line is no longer than its room
 pub line-short : {text : List ℕ} {line : Line} → Says text line → length text ≤ lineSize
@@ -46,8 +36,8 @@ module _ {A : Type 0} (f : A → List ℕ) (xs : List A) (out₀ : List ℕ) whe
         let front = spelled f (take i xs) in
         let word = f (getD xs i d) in
         let longer : spelled f (take (suc i) xs) ≡ front ++ word =
-        ap (spelled f) (take-suc xs i d l) ∙ spelled-append f (take i xs) (getD xs i d ∷ [])
-        ∙ ap (λ (r : List ℕ). front ++ r) (one f (getD xs i d)) in
+        ap (spelled f) (take-suc xs i d l) ∙ spelled-more f (take i xs) (getD xs i d)
+        in
         let short : length word ≤ lineSize = line-short a in
         let long : length (textOf line) ≡ length word = ap length (a .says) in
         let fits : at + length word ≤ length out₀ = omega (arith, s .small) in

@@ -4,7 +4,7 @@ use mathlib.Core.Path.{_≡_, refl, sym, _∙_, ap}
 use mathlib.Core.Bool.{Bool, cond}
 use mathlib.Core.List.{List, [], _∷_, _++_, map, flatten}
 use mathlib.Core.Option.{Option, none, some}
-use Prim.Native.Nat.{ℕ, _+_, _≤_}
+use Prim.Native.Nat.{ℕ, suc, _+_, _≤_}
 use native.Mathlib.Nat.{add-assoc, zero-add, add-zero}
 use native.Mathlib.Omega.{arith}
 use lib.Dec.{eqb}
@@ -32,6 +32,16 @@ module _ (n : ℕ) (p : Decisions) where
   outcomes-append [] ys e = refl
   outcomes-append (x ∷ xs) ys e = ap (λ os. oneOutcome n p e x ∷ os) (outcomes-append xs ys (onePacket n p e x))
 
+pub length-outcomes : (n : ℕ) (p : Decisions) (keys : List Key) (e : Ends) → length (outcomes n p e keys) ≡ length keys
+unfolding outcomes
+length-outcomes n p [] e = refl
+length-outcomes n p (key ∷ keys) e = ap suc (length-outcomes n p keys (onePacket n p e key))
+
+-- no outcomes add nothing
+pub totals-none : (t : Totals) → totalsAfter t [] ≡ t
+unfolding totalsAfter countOf
+totals-none t = rw (add-zero (t .packets), add-zero (t .hits), add-zero (t .misses), add-zero (t .noRule), add-zero (t .evictions))
+
 count-append : (f : ℕ → Bool) (os qs : List Outcome) → countOf f (os ++ qs) ≡ countOf f os + countOf f qs
 unfolding countOf
 count-append f [] qs = omega arith
@@ -44,8 +54,8 @@ totals-append t os qs =
     simp (length-append, count-append isHit, count-append isMiss, count-append isNoRule, count-append isEviction, add-assoc)
 
 totals-over : (t : Totals) (runs : List (List Outcome)) → totalsOver t runs ≡ totalsAfter t (flatten runs)
-unfolding totalsOver flatten totalsAfter countOf
-totals-over t [] = rw (add-zero (t .packets), add-zero (t .hits), add-zero (t .misses), add-zero (t .noRule), add-zero (t .evictions))
+unfolding totalsOver flatten
+totals-over t [] = sym (totals-none t)
 totals-over t (os ∷ runs) = totals-over (totalsAfter t os) runs ∙ sym (totals-append t os (flatten runs))
 
 pub totals-law : TotalsLaw

@@ -11,6 +11,10 @@ use Rattle.buffers.proofs.FieldLaws.{number-then, pair-then, pair-last}
 use Rattle.records.specs.Layout.{outcomeKind, outcomeZero, outcomeAction, outcomeRule, outcomeSlot, outcomeEvicted, outcomeSpare, outcomeSize}
 use Rattle.outcomes.specs.Outcomes.{decodeOutcome, encodeOutcome, OutcomeFits}
 
+pub length-outcome : (x : Outcome) → length (encodeOutcome x) ≡ outcomeSize
+unfolding encodeOutcome
+length-outcome x = refl
+
 -- what was encoded is decoded
 pub decode-encode-outcome : (x : Outcome) → OutcomeFits x → decodeOutcome (encodeOutcome x) ≡ x
 unfolding decodeOutcome encodeOutcome

@@ -13,13 +13,14 @@ use Rattle.model.proofs.Slots.{found}
 use Rattle.ternary.specs.Sizes.{keySize, positions}
 use Rattle.buffers.specs.Parts.{spelled}
 use Rattle.buffers.proofs.PartLaws.{part-length, part-bytes}
+use Rattle.buffers.proofs.ByteLaws.{two-below, four-below}
 use Rattle.records.specs.Layout.{slotSize, writeSequence, writeValue, writeMask, writeAction, writeRule, writeSize}
 use Rattle.checks.specs.Refusals.{unlessRefused}
 use Rattle.checks.specs.declared.refusal.Refusal.{Refusal}
 use Rattle.slots.specs.Slots.{encodeSlot, slotCount, slots, putSlot}
 use Rattle.slots.specs.Refusals.{WholeSlots}
 use Rattle.slots.proofs.SlotLaws.{slot-count, slot-at, slots-spell, length-put-slot, slots-put}
-use Rattle.slots.proofs.ByteSlots.{ByteSlot, two-below, four-below, slot-byte, counted-byte, put-bytes, put-spelled}
+use Rattle.slots.proofs.ByteSlots.{ByteSlot, slot-byte, counted-byte, put-bytes, put-spelled}
 use Rattle.messages.specs.Writes.{decodeWrite}
 use Rattle.table.specs.Lookups.{lookupRefusal, slotsAfterLookup, tableAfterLookup}
 use Rattle.received.specs.Writes.{writeCallRefusal, slotsAfterWrite, tableAfterWrite}

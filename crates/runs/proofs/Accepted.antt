@@ -4,29 +4,30 @@ use mathlib.Core.Bool.{Bool, cond}
 use mathlib.Core.List.{List, [], _∷_, _++_, map}
 use mathlib.Core.Option.{Option, none, some}
 use Prim.Native.Nat.{ℕ, suc, _*_}
-use native.Mathlib.Nat.{add-zero, zero-add}
+use native.Mathlib.Nat.{zero-add}
 use native.Mathlib.Omega.{arith}
 use lib.ListN.{length, drop}
 use lib.Seq.{take-at}
 use Rattle.model.specs.Records.{Outcome, Totals}
 use Rattle.model.specs.Totals.{isHit, isMiss, isNoRule, isEviction, countOf, totalsAfter}
+use Rattle.model.proofs.Totals.{length-outcomes, totals-none}
 use Rattle.ternary.specs.Sizes.{keySize, positions}
 use Rattle.buffers.specs.Parts.{splice, recordsIn, spelled}
+use Rattle.buffers.proofs.RowLaws.{length-spelled, records-spelled}
 use Rattle.records.specs.Layout.{outcomeSize}
 use Rattle.records.specs.Traces.{packetCount, keys}
 use Rattle.records.proofs.TraceLaws.{packet-count}
 use Rattle.checks.specs.declared.refusal.Refusal.{Refusal}
 use Rattle.slots.specs.Slots.{encodeSlot}
 use Rattle.outcomes.specs.Outcomes.{decodeOutcome, encodeOutcome}
+use Rattle.outcomes.proofs.OutcomeLaws.{length-outcome}
 use Rattle.verdict.specs.Decisions.{deciding}
 use Rattle.packet.specs.Packets.{endsIn}
-use Rattle.steps.proofs.StepLaws.{length-outcome, length-spelled, length-outcomes}
 use Rattle.trace.specs.Refusals.{runRefusal}
 use Rattle.trace.specs.Runs.{outcomesOf, endsOf, Shown, shownOf, runOf, endsLeft}
 use Rattle.trace.specs.declared.RunAnswer.{RunAnswer}
 use Rattle.trace.specs.declared.RunAnswer.the-variants.{Refused, Packets}
 use Rattle.runs.specs.Calls.{Call, Made, left, outcomesIn, toldBytes}
-use Rattle.runs.proofs.RowLaws.{records-spelled}
 
 -- what an accepted call of n packets left
 pub record AcceptedRun (t : Totals) (c : Call) (n : ℕ) : Type 0 where
@@ -103,7 +104,9 @@ module _ {t : Totals} {c : Call} {n : ℕ} (is : AcceptedRun t c n) where
 
   pub told-bytes : toldBytes n (c .out′) ≡ spelled encodeOutcome os
   told-bytes =
-      rw at-start (take-at (spelled encodeOutcome os) _ (outcomeSize * n) (length-spelled os ∙ ap (λ (k : ℕ). outcomeSize * k) outcome-count))
+      rw at-start
+      (take-at (spelled encodeOutcome os) _ (outcomeSize * n)
+      (length-spelled encodeOutcome outcomeSize length-outcome os ∙ ap (λ (k : ℕ). outcomeSize * k) outcome-count))
 
   -- and are read back from it as they were recorded
   pub read-back : recordsIn outcomeSize decodeOutcome n (c .out′) ≡ map (λ o. decodeOutcome (encodeOutcome o)) os
@@ -127,13 +130,9 @@ read-totals : (t : Totals) (os : List Outcome) → totalsAfter t (map (λ o. dec
 unfolding totalsAfter
 read-totals t os = rw (read-length os, read-count isHit os, read-count isMiss os, read-count isNoRule os, read-count isEviction os)
 
-none-added : (t : Totals) → totalsAfter t [] ≡ t
-unfolding totalsAfter countOf
-none-added t = rw (add-zero (t .packets), add-zero (t .hits), add-zero (t .misses), add-zero (t .noRule), add-zero (t .evictions))
-
 -- so the totals after a call are those of the outcomes that its output tells
 pub told-totals : (t : Totals) (c : Call) → Made t c → (a : RunAnswer) → c .ran .answer ≡ a → left c ≡ totalsAfter t (outcomesIn a (c .out′))
-told-totals t c is (Refused r) e = refused-run t c is e ∙ sym (none-added t)
+told-totals t c is (Refused r) e = refused-run t c is e ∙ sym (totals-none t)
 told-totals t c is (Packets n) e =
     let h = accepted-run t c is e in
     h .sums ∙ sym (ap (totalsAfter t) (read-back h) ∙ read-totals t (outcomesOf (c .policy) (c .trace) (c .table) (c .keeper)))

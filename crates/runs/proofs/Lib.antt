@@ -1,4 +1,3 @@
 -- Runs one after another.
-pub mod RowLaws
 pub mod Accepted
 pub mod Promise

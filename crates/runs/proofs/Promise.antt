@@ -11,19 +11,18 @@ use Rattle.model.specs.Totals.{totalsAfter, totalsOver, clearedTotals, Balanced
 use Rattle.model.proofs.Totals.{totals-append, totals-law, balance-law, cut-law}
 use Rattle.ternary.specs.Sizes.{keySize, positions}
 use Rattle.buffers.specs.Parts.{spelled}
+use Rattle.buffers.proofs.RowLaws.{spelled-append, records-append}
 use Rattle.records.specs.Layout.{traceSize}
 use Rattle.records.specs.Traces.{packetCount, keys, decodeTrace}
 use Rattle.slots.specs.Slots.{encodeSlot}
 use Rattle.outcomes.specs.Outcomes.{encodeOutcome}
 use Rattle.verdict.specs.Decisions.{deciding}
 use Rattle.packet.specs.Packets.{endsIn}
-use Rattle.steps.proofs.StepLaws.{spelled-append}
 use Rattle.trace.proofs.RunLaws.{run-whole}
 use Rattle.trace.specs.declared.RunAnswer.{RunAnswer}
 use Rattle.trace.specs.declared.RunAnswer.the-variants.{Refused, Packets}
 use Rattle.runs.specs.Calls.{Call, Made, left, InTurn, lastOf, toldIn, TotalsPromise}
 use Rattle.runs.specs.Calls.{toldBytes, CutRun, wholeCall, firstCall, secondCall, SameRun, CutPromise}
-use Rattle.runs.proofs.RowLaws.{records-append}
 use Rattle.runs.proofs.Accepted.{AcceptedRun, accepted-run, refused-run, told-bytes, told-totals}
 
 -- ---- totals
@@ -107,7 +106,7 @@ module _ (t : Totals) (c : CutRun) {n a b : ℕ}
       rw (told-bytes f, told-bytes s)
       (told-bytes w
       ∙ ap (spelled encodeOutcome) same-told
-      ∙ spelled-append (outcomes positions p e ks) (outcomes positions p (endsIn (c .table₁) (c .keeper₁)) ls))
+      ∙ spelled-append encodeOutcome (outcomes positions p e ks) (outcomes positions p (endsIn (c .table₁) (c .keeper₁)) ls))
 
   same-run : SameRun c n a b
   same-run =

@@ -1,53 +1,20 @@
 -- Slots that bytes can hold: what is decoded from bytes is one, and one that is put into a buffer leaves it a buffer of bytes, which the list of
 -- slots then spells. For every width. Assumes nothing.
 use mathlib.Core.Path.{_≡_, refl, sym, ap, _∙_}
-use mathlib.Core.List.{List, [], _∷_, _++_}
-use Prim.Native.Nat.{ℕ, zero, suc, _+_, _*_, _/_, _%_, _^_, _≤_, _<_, min, max}
+use mathlib.Core.List.{List}
+use Prim.Native.Nat.{ℕ, _+_, _*_, _^_, _≤_, _<_, min, max}
 use native.Mathlib.Omega.{arith}
-use lib.ListN.{length, take, drop, getD, set}
+use lib.ListN.{length, set}
 use Rattle.model.specs.Bits.{Bytes}
 use Rattle.model.specs.Records.{Slot, entryOf, slotWith}
 use Rattle.model.specs.Ends.{top, counted, confirmed}
 use Rattle.buffers.specs.Numbers.{be, toBe}
 use Rattle.buffers.specs.Parts.{part, splice, chunk, spelled}
-use Rattle.buffers.proofs.PartLaws.{part-length, part-bytes, drop-bytes, splice-part}
-use Rattle.buffers.proofs.NumberLaws.{be-two, be-halves}
+use Rattle.buffers.proofs.PartLaws.{part-length, part-bytes, splice-part}
+use Rattle.buffers.proofs.ByteLaws.{byte-more, byte-none, append-bytes, toBe-bytes, splice-bytes, two-below, four-below}
 use Rattle.records.specs.Layout.{slotSequence, slotHits, slotValue, slotMask, slotAction, slotRule, slotSettled, slotSpare, slotSize}
 use Rattle.slots.specs.Slots.{decodeSlot, encodeSlot, SlotFits, slotCount, slotIn, slots, putSlot}
 use Rattle.slots.proofs.SlotLaws.{encode-decode-slot, length-put-slot, slots-put, slots-spell}
-
--- ---- bytes of lists and of numbers
-
-pub byte-more : {b : ℕ} {bs : List ℕ} → b < 256 → Bytes bs → Bytes (b ∷ bs)
-byte-more {b} {bs} l h = record { byte = go }
-  where
-    go : (i : ℕ) → getD (b ∷ bs) i 0 < 256
-    go zero = l
-    go (suc i) = h .byte i
-
-pub byte-none : Bytes []
-byte-none = record { byte = λ i. omega arith }
-
-pub append-bytes : (xs ys : List ℕ) → Bytes xs → Bytes ys → Bytes (xs ++ ys)
-append-bytes [] ys h k = k
-append-bytes (x ∷ xs) ys h k = byte-more (h .byte 0) (append-bytes xs ys (record { byte = λ i. h .byte (suc i) }) k)
-
-pub toBe-bytes : (k n : ℕ) → Bytes (toBe k n)
-toBe-bytes zero n = byte-none
-toBe-bytes (suc k) n = append-bytes (toBe k (n / 256)) (n % 256 ∷ []) (toBe-bytes k (n / 256)) (byte-more (omega arith) byte-none)
-
-pub splice-bytes : (at : ℕ) (xs bs : List ℕ) → Bytes xs → Bytes bs → Bytes (splice at xs bs)
-unfolding splice
-splice-bytes at xs bs h k =
-    append-bytes (take at bs ++ xs) (drop (at + length xs) bs) (append-bytes (take at bs) xs (part-bytes at 0 bs k) h)
-    (drop-bytes (at + length xs) bs k)
-
--- the numbers of two bytes and of four
-pub two-below : (at : ℕ) (c : List ℕ) → Bytes c → at + 2 ≤ length c → be (part 2 at c) < 2 ^ 16
-two-below at c h l = omega (arith, be-two at c l, h .byte at, h .byte (at + 1))
-
-pub four-below : (at : ℕ) (c : List ℕ) → Bytes c → at + 4 ≤ length c → be (part 4 at c) < 2 ^ 32
-four-below at c h l = omega (arith, be-halves at c l, two-below at c h (omega arith), two-below (at + 2) c h (omega arith))
 
 -- ---- slots
 

@@ -2,3 +2,4 @@
 pub mod SlotLaws
 pub mod FitLaws
 pub mod ByteSlots
+pub mod SlotBytes

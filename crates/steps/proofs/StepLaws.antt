@@ -1,24 +1,25 @@
 -- A run's packets: one step, and as many as the trace has. Assumes nothing.
 use mathlib.Core.Path.{_≡_, refl, sym, ap, _∙_}
-use mathlib.Core.List.{List, [], _∷_, _++_, append-assoc, append-nil}
+use mathlib.Core.List.{List, [], _∷_, _++_}
 use Prim.Native.Nat.{ℕ, suc, _+_, _*_, _≤_, _<_}
-use native.Mathlib.Nat.{add-zero}
 use native.Mathlib.Numerals.{add-one}
 use native.Mathlib.Omega.{arith}
-use lib.ListN.{length, take, length-append, length-take}
+use lib.ListN.{length, take, length-take}
 use lib.Seq.{take-suc, take-all}
 use Rattle.model.specs.Records.{Outcome, Totals}
 use Rattle.model.specs.Ends.{Key, Decisions}
 use Rattle.model.specs.Trace.{Ends, onePacket, trace, oneOutcome, outcomes}
-use Rattle.model.specs.Totals.{countOf, totalsAfter}
-use Rattle.model.proofs.Totals.{cut-law, totals-append}
+use Rattle.model.specs.Totals.{totalsAfter}
+use Rattle.model.proofs.Totals.{length-outcomes, cut-law, totals-none, totals-append}
 use Rattle.ternary.specs.Sizes.{keySize, positions}
 use Rattle.buffers.specs.Parts.{splice, chunk, spelled}
 use Rattle.buffers.proofs.PartLaws.{part-length, splice-next}
+use Rattle.buffers.proofs.RowLaws.{spelled-more, length-spelled}
 use Rattle.records.specs.Layout.{outcomeSize, traceSize, mostPackets}
 use Rattle.records.specs.Traces.{packetCount, keyIn, keys, decodeTrace}
 use Rattle.records.proofs.TraceLaws.{packet-count, key-at}
 use Rattle.outcomes.specs.Outcomes.{encodeOutcome}
+use Rattle.outcomes.proofs.OutcomeLaws.{length-outcome}
 use Rattle.totals.specs.Sums.{mostTotal, AtMost}
 use Rattle.totals.proofs.SumLaws.{after-most}
 use Rattle.verdict.specs.Decisions.{deciding}
@@ -50,33 +51,6 @@ module _ {policy bs table keeper out key : List ℕ} {i : ℕ}
       → Stepped policy (keyIn keySize bs i) i table keeper out t table′ keeper′ out′ t′
   stepped did told sums = rw (← e) (record { ends = did .ends; told = rw (← did .outcome) told; sums = rw (← did .outcome) sums })
 
--- ---- the bytes of outcomes in a row
-
-pub spelled-append : (os qs : List Outcome) → spelled encodeOutcome (os ++ qs) ≡ spelled encodeOutcome os ++ spelled encodeOutcome qs
-unfolding spelled
-spelled-append [] qs = refl
-spelled-append (o ∷ os) qs =
-    ap (λ (s : List ℕ). encodeOutcome o ++ s) (spelled-append os qs)
-    ∙ sym (append-assoc (encodeOutcome o) (spelled encodeOutcome os) (spelled encodeOutcome qs))
-
-spelled-more : (os : List Outcome) (o : Outcome) → spelled encodeOutcome (os ++ (o ∷ [])) ≡ spelled encodeOutcome os ++ encodeOutcome o
-unfolding spelled
-spelled-more os o = spelled-append os (o ∷ []) ∙ ap (λ (s : List ℕ). spelled encodeOutcome os ++ s) (append-nil (encodeOutcome o))
-
-pub length-outcome : (o : Outcome) → length (encodeOutcome o) ≡ outcomeSize
-unfolding encodeOutcome
-length-outcome o = refl
-
-pub length-spelled : (os : List Outcome) → length (spelled encodeOutcome os) ≡ outcomeSize * length os
-unfolding spelled
-length-spelled [] = refl
-length-spelled (o ∷ os) = simp length-append (omega (arith, length-outcome o, length-spelled os))
-
-pub length-outcomes : (n : ℕ) (p : Decisions) (ks : List Key) (e : Ends) → length (outcomes n p e ks) ≡ length ks
-unfolding outcomes
-length-outcomes n p [] e = refl
-length-outcomes n p (k ∷ ks) e = ap suc (length-outcomes n p ks (onePacket n p e k))
-
 -- ---- all steps
 
 module _ (n : ℕ) (p : Decisions) (key : Key) (e : Ends) where
@@ -90,13 +64,8 @@ module _ (n : ℕ) (p : Decisions) (key : Key) (e : Ends) where
 
 -- nothing was run
 pub ran-none : (policy table keeper out : List ℕ) (t : Totals) → RanOver policy [] table keeper out t table keeper out t
-unfolding trace outcomes spelled splice totalsAfter countOf
-ran-none policy table keeper out t =
-    record {
-      ends = refl;
-      told = refl;
-      sums = rw (add-zero (t .packets), add-zero (t .hits), add-zero (t .misses), add-zero (t .noRule), add-zero (t .evictions));
-    }
+unfolding trace outcomes spelled splice
+ran-none policy table keeper out t = record { ends = refl; told = refl; sums = sym (totals-none t) }
 
 -- the first i packets of a trace were run, and no buffer's length has changed
 pub record SoFar (policy bs : List ℕ) (i : ℕ) (table keeper out : List ℕ) (t : Totals) (table₁ keeper₁ out₁ : List ℕ) (t₁ : Totals) : Type 0 where
@@ -182,8 +151,8 @@ module _ {policy bs table keeper out table₁ keeper₁ out₁ : List ℕ} {t t�
         did .told
         ∙ ap (splice (outcomeSize * i) (encodeOutcome o)) (is .ran .told)
         ∙ splice-next 0 (outcomeSize * i) (spelled encodeOutcome os) (encodeOutcome o) out
-        (omega (arith, length-spelled os, many)) (omega (arith, length-outcome o, l, room))
-        ∙ ap (λ (s : List ℕ). splice 0 s out) (sym (spelled-more os o))
+        (omega (arith, length-spelled encodeOutcome outcomeSize length-outcome os, many)) (omega (arith, length-outcome o, l, room))
+        ∙ ap (λ (s : List ℕ). splice 0 s out) (sym (spelled-more encodeOutcome os o))
 
     next-sums : t₂ ≡ totalsAfter t (os ++ (o ∷ []))
     next-sums = did .sums ∙ ap (λ (x : Totals). totalsAfter x (o ∷ [])) (is .ran .sums) ∙ sym (totals-append t os (o ∷ []))

@@ -1,13 +1,34 @@
--- Records of one size in a row: the first and the rest, and two rows one after the other. For any size and any reading. Assumes nothing.
+-- Records in a row: their bytes one after the other, the first and the rest, and two rows one after the other. For any size, any spelling and
+-- any reading. Assumes nothing.
 use mathlib.Core.Path.{_≡_, refl, sym, ap, _∙_}
-use mathlib.Core.List.{List, [], _∷_, _++_, map, append-assoc}
+use mathlib.Core.List.{List, [], _∷_, _++_, map, append-assoc, append-nil}
 use Prim.Native.Nat.{ℕ, zero, suc, _+_, _*_, _<_}
 use native.Mathlib.Nat.{mul-suc, zero-add, suc-add}
 use native.Mathlib.Omega.{arith}
-use lib.ListN.{length, take, drop, getD, length-take, length-drop, take-append-drop}
+use lib.ListN.{length, take, drop, getD, length-append, length-take, length-drop, take-append-drop}
 use lib.Seq.{take-at, drop-append-add, ext-getD}
 use Rattle.buffers.specs.Parts.{chunk, recordsIn, spelled}
 use Rattle.buffers.proofs.RecordLaws.{records-count, records-at}
+
+-- ---- spelled
+
+module _ {A : Type 0} (encode : A → List ℕ) where
+  pub spelled-append : (xs ys : List A) → spelled encode (xs ++ ys) ≡ spelled encode xs ++ spelled encode ys
+  unfolding spelled
+  spelled-append [] ys = refl
+  spelled-append (x ∷ xs) ys =
+      ap (λ (s : List ℕ). encode x ++ s) (spelled-append xs ys) ∙ sym (append-assoc (encode x) (spelled encode xs) (spelled encode ys))
+
+  pub spelled-more : (xs : List A) (x : A) → spelled encode (xs ++ (x ∷ [])) ≡ spelled encode xs ++ encode x
+  unfolding spelled
+  spelled-more xs x = spelled-append xs (x ∷ []) ∙ ap (λ (s : List ℕ). spelled encode xs ++ s) (append-nil (encode x))
+
+  pub length-spelled : (size : ℕ) → ((x : A) → length (encode x) ≡ size) → (xs : List A) → length (spelled encode xs) ≡ size * length xs
+  unfolding spelled
+  length-spelled size long [] = omega arith
+  length-spelled size long (x ∷ xs) = simp length-append (omega (arith, long x, length-spelled size long xs, mul-suc size (length xs)))
+
+-- ---- read
 
 module _ {A : Type 0} (size : ℕ) (decode : List ℕ → A) where
   module _ (c rest : List ℕ) (e : length c ≡ size) where

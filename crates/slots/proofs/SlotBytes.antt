@@ -14,12 +14,13 @@ use Rattle.model.specs.Records.{Slot, cleared, slotAt}
 use Rattle.model.proofs.Cases.{by-cases}
 use Rattle.ternary.specs.Sizes.{keySize}
 use Rattle.buffers.specs.Parts.{recordsIn, spelled}
+use Rattle.buffers.proofs.ByteLaws.{byte-none, append-bytes}
+use Rattle.buffers.proofs.RowLaws.{records-cons}
 use Rattle.records.specs.Layout.{slotSize}
 use Rattle.slots.specs.Slots.{decodeSlot, encodeSlot, slotCount, slots}
 use Rattle.slots.specs.Refusals.{WholeSlots}
 use Rattle.slots.proofs.SlotLaws.{slot-count, slot-at, decode-encode-slot, length-encode-slot}
-use Rattle.slots.proofs.ByteSlots.{ByteSlot, byte-none, append-bytes, slot-byte, encode-bytes}
-use Rattle.runs.proofs.RowLaws.{records-cons}
+use Rattle.slots.proofs.ByteSlots.{ByteSlot, slot-byte, encode-bytes}
 
 -- so many slots, each of which bytes can hold
 pub record ByteSlots (count : ℕ) (s : List Slot) : Type 0 where
