@@ -1,39 +1,24 @@
 -- `checks::flaw::first_flawed_rule` meets its contract: no record below i has a flaw. Assumes nothing.
 use borrow.Author.Needs.{needs}
-use mathlib.Core.Path.{sym, _∙_}
 use Prim.Native.Nat.{_≤_, _-_}
-use native.Mathlib.Nat.{add-sub-cancel-left}
 use Rattle.ternary.specs.Sizes.{keySize}
-use Rattle.checks.specs.Flaws.{ruleFlawAt}
+use Rattle.records.specs.Layout.{ruleSize}
+use Rattle.checks.specs.Flaws.{ruleFlaw}
 use Rattle.checks.proofs.FlawLaws.{Unflawed, unflawed-none, unflawed-more, flawed-here, flawed-nowhere}
 use Rattle.checks.proofs.flaw.first_flawed_rule.Statement.{statement}
 use Rattle.checks.proofs.flaw.first_flawed_rule.Tie as tie
 
 abbrev Inv-loop : tie.InvT-loop
-Inv-loop policy n i₀ i = (i ≤ n) × Unflawed (ruleFlawAt keySize policy) i
+Inv-loop policy n i₀ i = (i ≤ n) × Unflawed (ruleFlaw keySize) (ruleSize keySize) policy i
 
 abbrev μ-loop : tie.MeasureT-loop
 μ-loop policy n i₀ i = n - i
 
-loop-holds : tie.Need-loop-holds Inv-loop μ-loop
-loop-holds c = search (needs, unflawed-none)
-
 returns : tie.Need-returns Inv-loop μ-loop
 returns c =
     let k = c .before .before .before .before in
-    flawed-here (k .before .loop .inv .1) _ (k .loop-test .taken)
-    (rw add-sub-cancel-left at (c .before .before .rule-flaw .ensures)) (sym (c .before .is-flawed .ensures) ∙ c .if1 .taken)
-
-loop-again : tie.Need-loop-again Inv-loop μ-loop
-loop-again c =
-    let k = c .before .before .before .before in (
-      search needs,
-      unflawed-more (k .before .loop .inv .1)
-          (rw add-sub-cancel-left at (c .before .before .rule-flaw .ensures)) (sym (c .before .is-flawed .ensures) ∙ c .if1 .left),
-    )
-
-returns-2 : tie.Need-returns-2 Inv-loop μ-loop
-returns-2 c = flawed-nowhere (c .before .loop .inv .1) _ (c .loop-test .left)
+    flawed-here (k .before .loop .inv .1) (c .before .before .rule-flaw .ensures) (c .before .is-flawed .ensures) _
+    (k .loop-test .taken) (c .if1 .taken)
 
 pub first-flawed-rule-spec : {M : Type 1} → statement M
 first-flawed-rule-spec =
@@ -41,7 +26,7 @@ first-flawed-rule-spec =
     (tie.spec
     Inv-loop
     μ-loop
-    loop-holds
+    (λ c. search (needs, unflawed-none))
     (λ c. search needs)
     (λ c. search needs)
     (λ c. search needs)
@@ -52,5 +37,5 @@ first-flawed-rule-spec =
     returns
     (λ c. search needs)
     (λ c. search needs)
-    loop-again
-    returns-2)
+    (λ c. search (needs, unflawed-more))
+    (λ c. flawed-nowhere (c .before .loop .inv .1) _ (c .loop-test .left)))
