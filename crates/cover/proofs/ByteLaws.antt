@@ -28,7 +28,9 @@ module _ (items out₀ : List ℕ) where
   written-more {i} {out} l fits is e =
       let x : List ℕ = toBe 2 (getD items i 0) in
       let n : length x ≡ 2 = toBe-length 2 (getD items i 0) in
-      let m : length (numberBytes (take i items)) ≡ 2 * i = length-spelled (toBe 2) 2 (toBe-length 2) (take i items) ∙ rw (length-take-le i items (omega arith)) in
+      let m : length (numberBytes (take i items)) ≡ 2 * i =
+      length-spelled (toBe 2) 2 (toBe-length 2) (take i items) ∙ rw (length-take-le i items (omega arith))
+      in
       record {
         long = ap length e ∙ length-splice (2 * i) x out (omega (arith, n, is .long)) ∙ is .long;
         bytes = e

@@ -8,7 +8,8 @@ use Rattle.model.specs.Bits.{Bytes}
 use Rattle.model.specs.Records.{Write}
 use Rattle.buffers.specs.Numbers.{be, toBe}
 use Rattle.buffers.proofs.NumberLaws.{be-toBe}
-use Rattle.buffers.proofs.FieldLaws.{drop-past, part-past, byte-past, value-there, mask-there, after-rows, part-then, number-then, pair-then, pair-last}
+use Rattle.buffers.proofs.FieldLaws.{drop-past, part-past, byte-past, value-there, mask-there, after-rows}
+use Rattle.buffers.proofs.FieldLaws.{part-then, number-then, pair-then, pair-last}
 use Rattle.records.specs.Layout.{writeKind, writeZero, writeSlot, writeSequence, writeValue, writeMask, writeAction, writeRule}
 use Rattle.records.specs.Layout.{writeSpare, writeSize, isWrite}
 use Rattle.messages.specs.Writes.{decodeWrite, encodeWrite, WriteFits}

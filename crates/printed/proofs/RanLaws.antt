@@ -17,7 +17,8 @@ use Rattle.replay.proofs.FileLaws.{Taken, files-refused, files-taken}
 use Rattle.printed.specs.Text.{ranText, outcomesFrom, callRefusal, textFor, replayText}
 
 module _ {a : RunAnswer} (t : Totals) (records : List ℕ) {out : List ℕ} {m : ℕ} {out′ : List ℕ} where
-  pub refused-put : {r : Refusal} → a ≡ Refused r → TextPut (refusalLine (r .number) (r .place)) out m out′ → TextPut (ranText a t records) out m out′
+  pub refused-put : {r : Refusal} → a ≡ Refused r → TextPut (refusalLine (r .number) (r .place)) out m out′
+      → TextPut (ranText a t records) out m out′
   refused-put e p = rw e p
 
   pub packets-put : {k : ℕ} → a ≡ Packets k → TextPut (linesIn k records ++ totalsLine t) out m out′ → TextPut (ranText a t records) out m out′
