@@ -77,7 +77,7 @@ report-clean c = spare-iff reportSpares c
 
 -- ---- all records are clean
 
-clean-of : (x : Flaw) → isFlawed x ≡ false → x ≡ Clean
+pub clean-of : (x : Flaw) → isFlawed x ≡ false → x ≡ Clean
 clean-of Clean e = refl
 clean-of (Spare at) e = let z : _≡_ {A = ℕ} 0 1 = cc in absurd (omega arith)
 clean-of (Stray at) e = let z : _≡_ {A = ℕ} 0 1 = cc in absurd (omega arith)

@@ -15,7 +15,7 @@ use Rattle.isolate.specs.Promise.{AnswerLaw}
 use Rattle.isolate.specs.declared.Said.the-variants.{Isolated}
 use Rattle.isolate.proofs.AnswerLaws.{ready, policy-fine}
 
-isolated-of : (o : Option Refusal) (x : IsolatedRule) → (answerOf o x) .said ≡ Isolated → o ≡ none
+pub isolated-of : (o : Option Refusal) (x : IsolatedRule) → (answerOf o x) .said ≡ Isolated → o ≡ none
 isolated-of (some r) x e = let z : _≡_ {A = ℕ} 0 1 = cc in absurd (omega arith)
 isolated-of none x e = refl
 

@@ -9,11 +9,9 @@ use native.Mathlib.Omega.{arith}
 use lib.Dec.{ltb, eqb}
 use lib.ListN.{length, set}
 use borrow.Author.Tests.{eqb-true, eq-eqb, ne-eqb, lt-ltb, le-ltb}
-use Rattle.model.specs.Records.{Slot, Write, Outcome, Entry, slotAt, written, entryIn, writeFor, entryAt}
-use Rattle.model.specs.Ends.{Miss, noRule, again, place, usedUp, isEmpty, missWrite}
-use Rattle.model.specs.Trace.{missOutcome}
+use Rattle.model.specs.Records.{Slot, Write, Outcome, written, entryIn, writeFor, entryAt}
+use Rattle.model.specs.Ends.{Miss, noRule, again, place, usedUp, missWrite}
 use Rattle.model.specs.Refusals.{ragged, badSlots, shortOutput}
-use Rattle.model.proofs.Cases.{by-cases}
 use Rattle.ternary.specs.Sizes.{keySize}
 use Rattle.buffers.specs.Parts.{splice}
 use Rattle.records.specs.Layout.{writeSize}
@@ -32,7 +30,7 @@ use Rattle.policy.specs.Answers.{checkAnswer, bestRefusal}
 use Rattle.policy.specs.declared.PolicyAnswer.{PolicyAnswer}
 use Rattle.policy.specs.declared.PolicyAnswer.the-variants.{Refused as BadPolicy, Rules}
 use Rattle.policy.proofs.CheckLaws.{check-refused, check-passed, passed-few}
-use Rattle.verdict.specs.Decisions.{Fine, deciding, missIn, DecidedAs}
+use Rattle.verdict.specs.Decisions.{Fine, deciding, DecidedAs}
 use Rattle.miss.specs.Answers.{partsRefusal, checkedOf, roomRefusal, missRefused, answerOf, outWith, MissedAs, OnMiss, Missed}
 use Rattle.miss.specs.Answers.{placesEntry, EntryPlaced, CarriedOut}
 use Rattle.verdict.specs.declared.Decision.{Decision}
@@ -40,6 +38,7 @@ use Rattle.miss.specs.declared.Parts.{Parts}
 use Rattle.miss.specs.declared.Parts.the-variants.{Refused as PartRefused, Fine as PartsFine}
 use Rattle.miss.specs.declared.MissAnswer.{MissAnswer}
 use Rattle.miss.specs.declared.MissAnswer.the-variants.{Refused, Outcome as Told}
+use Rattle.miss.proofs.OutcomeLaws.{none-quiet, full-quiet, again-given, entry-given}
 
 -- ---- the parts that are lent
 
@@ -146,9 +145,6 @@ module _ (policy keeper out : List ℕ) {d : Decision} {r : MissAnswer} {keeper�
   abbrev As : Miss → Type 0
   As m = MissedAs policy keeper m (roomRefusal (missWrite k m) (length out)) out r keeper′ out′
 
-  number-is : {x : Outcome} → asOutcome (d .outcome) ≡ x → n ≡ x .outcome
-  number-is e = ap (λ (x : Outcome). x .outcome) e
-
   -- outcomes 0 and 4: no write is given
   answer-quiet : {x : Outcome} → givesWrite n ≡ false → asOutcome (d .outcome) ≡ x → r ≡ answerOf none x
   answer-quiet g e = (rw g at (c .answer)) ∙ ap (answerOf none) e
@@ -193,37 +189,22 @@ module _ (policy keeper out : List ℕ) {d : Decision} {r : MissAnswer} {keeper�
     slots-placed p e =
         (rw (g, p) at (c .meaning)) ∙ ap (λ (x : Write). unlessRefused refused k (set k (x .slot) (written (entryIn x)))) e
 
-  silent : (number : ℕ) → givesWrite number ≡ false → n ≡ number → givesWrite n ≡ false
-  silent number g e = rw e g
-
-  -- the outcome of an entry that is placed is 2 or 3
-  placed-number : (i : ℕ) (x : Entry) → asOutcome (d .outcome) ≡ missOutcome (deciding policy) k (place i x)
-      → (givesWrite n ≡ true) × (placesEntry n ≡ true)
-  unfolding placesEntry givesWrite
-  placed-number i x h =
-      by-cases (isEmpty (slotAt k i))
-      (λ t. let e : n ≡ 2 = number-is h ∙ rw t in rw e (refl, refl))
-      (λ t. let e : n ≡ 3 = number-is h ∙ rw t in rw e (refl, refl))
-
   pub missed-as : (m : Miss) → DecidedAs policy keeper m d → As m
-  unfolding placesEntry givesWrite
   missed-as noRule is =
-      let g : givesWrite n ≡ false = silent 0 refl (number-is (is .outcome)) in
+      let g = none-quiet (deciding policy) k (d .outcome) (is .outcome) in
       record { answer = answer-quiet g (is .outcome); bytes = bytes-quiet g; meaning = slots-quiet g; given = out-quiet g }
   missed-as (again i) is =
       let w : Write = writeFor i (entryAt k i) in
-      let e : n ≡ 5 = number-is (is .outcome) in
-      let g : givesWrite n ≡ true = rw e in
-      let p : placesEntry n ≡ false = rw e in
+      let h = again-given (deciding policy) k (d .outcome) (is .outcome) in
       record {
-        answer = answer-given w g (is .outcome);
-        bytes = bytes-left w g p;
-        meaning = slots-left w g p;
-        given = out-given w g (is .write);
+        answer = answer-given w (h .0) (is .outcome);
+        bytes = bytes-left w (h .0) (h .1);
+        meaning = slots-left w (h .0) (h .1);
+        given = out-given w (h .0) (is .write);
       }
   missed-as (place i x) is =
       let w : Write = writeFor i x in
-      let h = placed-number i x (is .outcome) in
+      let h = entry-given (deciding policy) k (d .outcome) i x (is .outcome) in
       record {
         answer = answer-given w (h .0) (is .outcome);
         bytes = bytes-placed w (h .0) (h .1) (is .write);
@@ -231,7 +212,7 @@ module _ (policy keeper out : List ℕ) {d : Decision} {r : MissAnswer} {keeper�
         given = out-given w (h .0) (is .write);
       }
   missed-as (usedUp rule) is =
-      let g : givesWrite n ≡ false = silent 4 refl (number-is (is .outcome)) in
+      let g = full-quiet (deciding policy) k (d .outcome) (is .outcome) in
       record { answer = answer-quiet g (is .outcome); bytes = bytes-quiet g; meaning = slots-quiet g; given = out-quiet g }
 
 -- a call whose parts are fine is the call without its checks

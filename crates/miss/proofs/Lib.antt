@@ -1,2 +1,3 @@
 -- Laws of a miss that arrives at the keeper.
+pub mod OutcomeLaws
 pub mod AnswerLaws

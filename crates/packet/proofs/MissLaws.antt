@@ -5,32 +5,18 @@ use mathlib.Core.List.{List}
 use mathlib.Core.Option.{none, some}
 use Prim.Native.Nat.{ℕ}
 use lib.ListN.{set}
-use Rattle.model.specs.Records.{Slot, Write, Outcome, Entry, slotAt, entryIn, written}
-use Rattle.model.specs.Ends.{Miss, noRule, again, place, usedUp, isEmpty, missKeeper, missWrite}
-use Rattle.model.specs.Trace.{missOutcome}
-use Rattle.model.proofs.Cases.{by-cases, clash}
+use Rattle.model.specs.Records.{Slot, Write, entryIn, written}
+use Rattle.model.specs.Ends.{Decisions, Miss, noRule, again, place, usedUp, missKeeper, missWrite}
+use Rattle.model.proofs.Cases.{clash}
 use Rattle.ternary.specs.Sizes.{keySize}
 use Rattle.slots.specs.Slots.{slots}
 use Rattle.messages.specs.Structs.{asWrite}
 use Rattle.outcomes.specs.Outcomes.{asOutcome, givesWrite}
 use Rattle.verdict.specs.Decisions.{deciding, missIn, DecidedAs}
-use Rattle.miss.specs.Answers.{placesEntry, EntryPlaced}
+use Rattle.miss.specs.Answers.{EntryPlaced}
+use Rattle.miss.proofs.OutcomeLaws.{none-quiet, full-quiet, again-given, entry-given}
 use Rattle.verdict.specs.declared.Decision.{Decision}
 use Rattle.packet.specs.Packets.{endsIn, Became, sentEnds, missedOutcome, missedEnds}
-
--- which outcomes give a write, and which place an entry
-module _ {n : ℕ} where
-  none-0 : n ≡ 0 → givesWrite n ≡ false
-  unfolding givesWrite
-  none-0 e = rw e
-
-  none-4 : n ≡ 4 → givesWrite n ≡ false
-  unfolding givesWrite
-  none-4 e = rw e
-
-  given-5 : n ≡ 5 → (givesWrite n ≡ true) × (placesEntry n ≡ false)
-  unfolding givesWrite placesEntry
-  given-5 e = rw e (refl, refl)
 
 module _ (policy keeper : List ℕ) (d : Decision) where
   abbrev k : List Slot
@@ -39,35 +25,27 @@ module _ (policy keeper : List ℕ) (d : Decision) where
   abbrev n : ℕ
   n = d .outcome .outcome
 
-  number-is : {x : Outcome} → asOutcome (d .outcome) ≡ x → n ≡ x .outcome
-  number-is e = ap (λ (x : Outcome). x .outcome) e
-
-  -- an entry is placed under outcome 2 or 3
-  placed : (i : ℕ) (x : Entry) → asOutcome (d .outcome) ≡ missOutcome (deciding policy) k (place i x)
-      → (givesWrite n ≡ true) × (placesEntry n ≡ true)
-  unfolding placesEntry givesWrite
-  placed i x h =
-      by-cases (isEmpty (slotAt k i))
-      (λ t. let e : n ≡ 2 = number-is h ∙ rw t in rw e (refl, refl))
-      (λ t. let e : n ≡ 3 = number-is h ∙ rw t in rw e (refl, refl))
+  abbrev p : Decisions
+  p = deciding policy
 
   -- where no write is given the keeper stays as it is
   quiet : (m : Miss) → DecidedAs policy keeper m d → givesWrite n ≡ false → (missKeeper k m ≡ k) × (missWrite k m ≡ none)
   quiet noRule is g = (refl, refl)
-  quiet (again i) is g = clash (given-5 (number-is (is .outcome)) .0) g
-  quiet (place i x) is g = clash (placed i x (is .outcome) .0) g
+  quiet (again i) is g = clash (again-given p k (d .outcome) (is .outcome) .0) g
+  quiet (place i x) is g = clash (entry-given p k (d .outcome) i x (is .outcome) .0) g
   quiet (usedUp r) is g = (refl, refl)
 
   -- where one is given the entry was put, unless it is given again
   entered : {keeper′ : List ℕ} (m : Miss) → DecidedAs policy keeper m d → givesWrite n ≡ true → EntryPlaced n (asWrite (d .write)) keeper keeper′
       → (slots keySize keeper′ ≡ missKeeper k m) × (missWrite k m ≡ some (asWrite (d .write)))
-  entered noRule is g put = clash g (none-0 (number-is (is .outcome)))
-  entered (again i) is g put = (rw (given-5 (number-is (is .outcome)) .1) at (put .meaning), ap some (sym (is .write)))
+  entered noRule is g put = clash g (none-quiet p k (d .outcome) (is .outcome))
+  entered (again i) is g put = (rw (again-given p k (d .outcome) (is .outcome) .1) at (put .meaning), ap some (sym (is .write)))
   entered (place i x) is g put = (
-    (rw (placed i x (is .outcome) .1) at (put .meaning)) ∙ ap (λ (w : Write). set k (w .slot) (written (entryIn w))) (is .write),
+    (rw (entry-given p k (d .outcome) i x (is .outcome) .1) at (put .meaning))
+        ∙ ap (λ (w : Write). set k (w .slot) (written (entryIn w))) (is .write),
     ap some (sym (is .write)),
   )
-  entered (usedUp r) is g put = clash g (none-4 (number-is (is .outcome)))
+  entered (usedUp r) is g put = clash g (full-quiet p k (d .outcome) (is .outcome))
 
   module _ (key table : List ℕ) (is : DecidedAs policy keeper (missIn policy key keeper) d) where
     abbrev Is : List ℕ → List ℕ → Type 0

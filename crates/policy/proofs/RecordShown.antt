@@ -7,12 +7,11 @@ use native.Mathlib.Omega.{arith}
 use borrow.Author.Tests.{ltb-true}
 use Rattle.ternary.specs.Sizes.{keySize}
 use Rattle.records.specs.Rules.{ruleCount}
-use Rattle.checks.specs.Refusals.{orElse}
 use Rattle.checks.specs.declared.refusal.Refusal.{Refusal}
 use Rattle.policy.specs.Refusals.{policyRefusal}
 use Rattle.policy.specs.Answers.{recordRefusal, recordOf, recordAnswer}
 use Rattle.policy.specs.declared.RecordAnswer.the-variants.{Refused, Shown}
-use Rattle.checks.proofs.RefusalLaws.{need-none}
+use Rattle.checks.proofs.RefusalLaws.{none-first, need-none}
 
 of-refused : (o : Option Refusal) (r : Refusal) → Refused r ≡ recordOf o → o ≡ some r
 of-refused (some x) r e = cc
@@ -21,10 +20,6 @@ of-refused none r e = let z : _≡_ {A = ℕ} 0 1 = cc in absurd (omega arith)
 of-shown : (o : Option Refusal) → Shown ≡ recordOf o → o ≡ none
 of-shown (some x) e = let z : _≡_ {A = ℕ} 0 1 = cc in absurd (omega arith)
 of-shown none e = refl
-
-later-none : (o later : Option Refusal) → orElse o later ≡ none → later ≡ none
-later-none (some x) later e = let z : _≡_ {A = ℕ} 0 1 = cc in absurd (omega arith)
-later-none none later e = e
 
 module _ (bs : List ℕ) (number : ℕ) where
   pub record-refused : (r : Refusal) → Refused r ≡ recordAnswer bs number → recordRefusal bs number ≡ some r
@@ -38,4 +33,4 @@ module _ (bs : List ℕ) (number : ℕ) where
   -- a record that is shown is one of the policy
   pub shown-below : recordRefusal bs number ≡ none → number < ruleCount keySize bs
   unfolding recordRefusal
-  shown-below e = ltb-true _ _ (need-none _ _ _ (later-none (policyRefusal bs) _ e) .0)
+  shown-below e = ltb-true _ _ (need-none _ _ _ (none-first (policyRefusal bs) _ e .1) .0)

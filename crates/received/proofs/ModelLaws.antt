@@ -18,6 +18,7 @@ use Rattle.buffers.specs.Parts.{splice}
 use Rattle.records.specs.Layout.{writeKind, isWrite, writeSize, reportSize}
 use Rattle.checks.specs.Flaws.{Zeros, writeSpares}
 use Rattle.checks.proofs.CleanLaws.{write-clean}
+use Rattle.checks.proofs.RefusalLaws.{none-first, need-none}
 use Rattle.slots.specs.Slots.{slotCount, slots}
 use Rattle.slots.specs.Refusals.{WholeSlots}
 use Rattle.slots.proofs.SlotLaws.{slot-count}
@@ -31,7 +32,7 @@ use Rattle.received.specs.Writes.{writeCallRefusal, GoodWrite, slotsAfte
 use Rattle.table.specs.declared.lookup.LookupAnswer.{LookupAnswer}
 use Rattle.received.specs.declared.write.WriteAnswer.{WriteAnswer}
 use Rattle.received.specs.declared.write.WriteAnswer.the-variants.{Taken}
-use Rattle.table.proofs.LookupLaws.{neither, passed, lookup-whole, hit-room}
+use Rattle.table.proofs.LookupLaws.{lookup-whole, hit-room}
 use Rattle.received.proofs.WriteLaws.{good-call}
 
 -- the model's test does not refuse, and neither do the later ones
@@ -87,9 +88,9 @@ pub good-lookup : (key table : List ℕ) (room : ℕ) → (lookupRefusal key tab
 unfolding lookupRefusal keyRefusal
 good-lookup key table room = (
   λ e.
-      let long = neither (keyRefusal key) _ e in
+      let long = none-first (keyRefusal key) _ e in
       record {
-        long = eqb-true _ _ (passed (eqb (length key) keySize) _ none (long .0) .0);
+        long = eqb-true _ _ (need-none (eqb (length key) keySize) _ none (long .0) .0);
         whole = lookup-whole key table room e;
         fits = λ i f. hit-room key table room i e f;
       },

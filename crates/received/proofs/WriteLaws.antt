@@ -1,6 +1,6 @@
 -- Which writes are refused, and what one that is not comes to. Assumes nothing.
 use mathlib.Core.Path.{_≡_, refl, sym}
-use mathlib.Core.Bool.{false, not}
+use mathlib.Core.Bool.{not}
 use mathlib.Core.List.{List}
 use mathlib.Core.Option.{Option, none, some}
 use mathlib.Core.Logic.{_↔_}
@@ -18,8 +18,8 @@ use Rattle.buffers.specs.Parts.{splice}
 use Rattle.records.specs.Layout.{slotSize, writeKind, isWrite, writeSize, reportSize}
 use Rattle.checks.specs.Flaws.{isFlawed, writeFlaw}
 use Rattle.checks.specs.declared.refusal.Refusal.{Refusal}
-use Rattle.checks.specs.declared.flaw.Flaw.{Flaw}
-use Rattle.checks.specs.declared.flaw.Flaw.the-variants.{Clean, Spare, Stray}
+use Rattle.checks.proofs.CleanLaws.{clean-of}
+use Rattle.checks.proofs.RefusalLaws.{none-first, need-none}
 use Rattle.slots.specs.Slots.{slotCount, slots}
 use Rattle.slots.specs.Refusals.{slotsRefusal}
 use Rattle.slots.proofs.SlotLaws.{slots-spell}
@@ -30,7 +30,6 @@ use Rattle.received.specs.Stores.{Stored}
 use Rattle.received.specs.Writes.{writeMessageRefusal, writeCallRefusal, takenOf, GoodWrite, GoodCall}
 use Rattle.received.specs.Writes.{slotsAfterWrite, tableAfterWrite, outAfterWrite, Received}
 use Rattle.received.specs.declared.write.WriteAnswer.the-variants.{Refused, Taken}
-use Rattle.table.proofs.LookupLaws.{neither, passed}
 
 -- ---- what the answer says
 
@@ -44,21 +43,16 @@ taken-passed none e = refl
 
 -- ---- which writes are not refused
 
-clean-of : (x : Flaw) → isFlawed x ≡ false → x ≡ Clean
-clean-of Clean e = refl
-clean-of (Spare at) e = let z : _≡_ {A = ℕ} 0 1 = cc in absurd (omega arith)
-clean-of (Stray at) e = let z : _≡_ {A = ℕ} 0 1 = cc in absurd (omega arith)
-
 module _ (m : List ℕ) (count : ℕ) where
   pub good-write : (writeMessageRefusal m count ≡ none) ↔ GoodWrite m count
   unfolding writeMessageRefusal
   good-write = (
     λ e.
-        let long = passed (eqb (length m) (writeSize keySize)) _ _ e in
-        let kind = passed (eqb (getD m writeKind 0) isWrite) _ _ (long .1) in
-        let clean = passed (not (isFlawed (writeFlaw keySize m))) _ _ (kind .1) in
-        let there = passed (ltb (decodeWrite keySize m .slot) count) _ _ (clean .1) in
-        let nonzero = passed (not (eqb (decodeWrite keySize m .sequence) 0)) _ _ (there .1) in
+        let long = need-none (eqb (length m) (writeSize keySize)) _ _ e in
+        let kind = need-none (eqb (getD m writeKind 0) isWrite) _ _ (long .1) in
+        let clean = need-none (not (isFlawed (writeFlaw keySize m))) _ _ (kind .1) in
+        let there = need-none (ltb (decodeWrite keySize m .slot) count) _ _ (clean .1) in
+        let nonzero = need-none (not (eqb (decodeWrite keySize m .sequence) 0)) _ _ (there .1) in
         let live = eqb-false (decodeWrite keySize m .sequence) 0 (not-true (nonzero .0)) in
         record {
           long = eqb-true _ _ (long .0);
@@ -81,12 +75,12 @@ module _ (table m : List ℕ) (room : ℕ) where
   unfolding writeCallRefusal
   good-call = (
     λ e.
-        let whole = neither (slotsRefusal table) _ e in
-        let good = neither (writeMessageRefusal m (slotCount keySize table)) _ (whole .1) in
+        let whole = none-first (slotsRefusal table) _ e in
+        let good = none-first (writeMessageRefusal m (slotCount keySize table)) _ (whole .1) in
         record {
           whole = slots-accepted table .0 (whole .0);
           good = good-write m (slotCount keySize table) .0 (good .0);
-          fits = leb-true _ _ (passed (leb reportSize room) _ none (good .1) .0);
+          fits = leb-true _ _ (need-none (leb reportSize room) _ none (good .1) .0);
         },
     λ h. rw (slots-accepted table .1 (h .whole), good-write m (slotCount keySize table) .1 (h .good), le-leb _ _ (h .fits)),
   )

@@ -1,6 +1,5 @@
 -- What the answer about the files says, where they are taken and where they are refused. Assumes nothing.
-use mathlib.Core.Path.{_≡_, refl, sym, ap, _∙_}
-use mathlib.Core.Bool.{Bool, true, false}
+use mathlib.Core.Path.{_≡_, refl}
 use mathlib.Core.List.{List}
 use mathlib.Core.Option.{Option, none, some}
 use Prim.Native.Nat.{ℕ, _≤_}
@@ -12,9 +11,9 @@ use Rattle.model.specs.Refusals.{tooMany, badSlots}
 use Rattle.records.specs.Layout.{mostSlots}
 use Rattle.checks.specs.Refusals.{need}
 use Rattle.checks.specs.declared.refusal.Refusal.{Refusal}
+use Rattle.checks.proofs.RefusalLaws.{need-none}
 use Rattle.replay.specs.Slots.{slotsIn}
 use Rattle.replay.specs.Files.{mostPolicyBytes, mostTraceBytes, fileRefusal, answerOf, fileAnswer}
-use Rattle.replay.specs.declared.FileAnswer.{FileAnswer}
 use Rattle.replay.specs.declared.FileAnswer.the-variants.{Refused, Slots}
 use Rattle.replay.proofs.SlotText.{slots-few}
 
@@ -26,11 +25,6 @@ pub record Taken (slots policy trace : List ℕ) (n : ℕ) : Type 0 where
   pub few-there : n ≤ mostSlots
   pub policy-short : length policy ≤ mostPolicyBytes
   pub trace-short : length trace ≤ mostTraceBytes
-
--- a test that was passed, and the tests after it
-need-passed : (b : Bool) (number : ℕ) (later : Option Refusal) → need b number later ≡ none → (b ≡ true) × (later ≡ none)
-need-passed true number later e = (refl, e)
-need-passed false number later e = let z : _≡_ {A = ℕ} 0 1 = cc in absurd (omega arith)
 
 of-refused : (o : Option Refusal) (n : ℕ) {r : Refusal} → answerOf o n ≡ Refused r → o ≡ some r
 of-refused (some q) n e = cc
@@ -51,9 +45,9 @@ module _ (slots policy trace : List ℕ) where
       let of = of-slots (fileRefusal slots policy trace) (slotsIn slots) e in
       let trace-test = need (leb (length trace) mostTraceBytes) tooMany none in
       let policy-test = need (leb (length policy) mostPolicyBytes) tooMany trace-test in
-      let first = need-passed (leb 1 (slotsIn slots)) badSlots policy-test (of .0) in
-      let second = need-passed (leb (length policy) mostPolicyBytes) tooMany trace-test (first .1) in
-      let third = need-passed (leb (length trace) mostTraceBytes) tooMany none (second .1) in
+      let first = need-none (leb 1 (slotsIn slots)) badSlots policy-test (of .0) in
+      let second = need-none (leb (length policy) mostPolicyBytes) tooMany trace-test (first .1) in
+      let third = need-none (leb (length trace) mostTraceBytes) tooMany none (second .1) in
       record {
         fine = of .0;
         count = of .1;

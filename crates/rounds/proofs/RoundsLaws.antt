@@ -16,13 +16,12 @@ use Rattle.model.specs.Pattern.{wildcards}
 use Rattle.model.specs.Policy.{Rule, best, dependents}
 use Rattle.model.specs.Isolate.{separates, chosen, isolate}
 use Rattle.model.proofs.Cases.{and-left}
-use Rattle.model.proofs.BelowLaws.{most-unique, elem-keep}
+use Rattle.model.proofs.BelowLaws.{most-unique, elem-keep, elem-at}
 use Rattle.model.proofs.PolicyLaws.{dependent-iff}
 use Rattle.model.proofs.RoundLaws.{fewer}
 use Rattle.model.proofs.IsolateLaws.{Rounds, rounds-start, rounds-next, resume, resume-start, resume-round, resume-stop}
 use Rattle.cover.specs.Numbers.{Lists, Under}
 use Rattle.rounds.specs.Structs.{PatternOf}
-use Rattle.rounds.proofs.StandingLaws.{elem-at}
 
 -- ---- the scan: positions below p were seen, none of them is above `most`, and `best` is the first that reaches it
 pub record Scan (f : ℕ → ℕ) (n p best most : ℕ) : Type 0 where

@@ -1,25 +1,15 @@
 -- Lists at the front of an array, and what is kept of them. Assumes nothing.
 use mathlib.Core.Path.{_≡_, refl, sym, ap, _∙_}
-use mathlib.Core.Bool.{Bool, true, false, not, cond, or-true}
+use mathlib.Core.Bool.{Bool, true, false, not, cond}
 use mathlib.Core.List.{List, [], _∷_, _++_, append-nil}
-use Prim.Native.Nat.{ℕ, zero, suc, _+_, _<_}
+use Prim.Native.Nat.{ℕ, _+_, _<_}
 use native.Mathlib.Numerals.{add-one}
-use native.Mathlib.Nat.{not-suc-le-zero}
 use native.Mathlib.Omega.{arith}
-use lib.Dec.{eqb}
 use lib.ListN.{length, take, getD, set, length-append, length-set}
 use lib.Seq.{take-suc, take-suc-set}
-use borrow.Author.Tests.{eq-eqb}
-use Rattle.model.specs.Below.{keep, elem}
+use Rattle.model.specs.Below.{keep}
 use Rattle.model.proofs.Cases.{by-cases}
 use Rattle.cover.specs.Numbers.{Lists}
-
--- a member of the list by its place
-pub elem-at : (xs : List ℕ) (k : ℕ) → k < length xs → elem (getD xs k 0) xs ≡ true
-unfolding elem
-elem-at [] k l = absurd (not-suc-le-zero l)
-elem-at (x ∷ xs) zero l = rw (eq-eqb x x refl)
-elem-at (x ∷ xs) (suc k) l = rw (elem-at xs k (omega arith)) (or-true (eqb (getD xs k 0) x))
 
 module _ (f : ℕ → Bool) where
   keep-last : (xs : List ℕ) (x : ℕ) → keep f (xs ++ (x ∷ [])) ≡ keep f xs ++ cond (f x) (x ∷ []) []

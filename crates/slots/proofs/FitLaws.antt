@@ -1,6 +1,6 @@
 -- What a buffer of slots that is not refused is. Assumes nothing.
-use mathlib.Core.Path.{_≡_, refl}
-use mathlib.Core.Bool.{Bool, true, false, _&&_}
+use mathlib.Core.Path.{_≡_}
+use mathlib.Core.Bool.{true, _&&_}
 use mathlib.Core.List.{List}
 use mathlib.Core.Option.{none}
 use mathlib.Core.Logic.{_↔_}
@@ -13,13 +13,9 @@ use Rattle.model.specs.Refusals.{badSlots}
 use Rattle.model.proofs.Cases.{and-left, and-right}
 use Rattle.ternary.specs.Sizes.{keySize}
 use Rattle.records.specs.Layout.{slotSize, mostSlots}
-use Rattle.checks.specs.Refusals.{need}
+use Rattle.checks.proofs.RefusalLaws.{need-none}
 use Rattle.slots.specs.Slots.{slotCount}
 use Rattle.slots.specs.Refusals.{slotsFit, slotsRefusal, WholeSlots}
-
-need-none : (b : Bool) (number : ℕ) → need b number none ≡ none → b ≡ true
-need-none true number e = refl
-need-none false number e = let z : _≡_ {A = ℕ} 0 1 = cc in absurd (omega arith)
 
 module _ (bs : List ℕ) where
   pub fit-whole : slotsFit bs ≡ true → WholeSlots bs
@@ -45,4 +41,4 @@ module _ (bs : List ℕ) where
   -- not refused are exactly the buffers of 1 to 256 whole slots
   pub slots-accepted : (slotsRefusal bs ≡ none) ↔ WholeSlots bs
   unfolding slotsRefusal
-  slots-accepted = (λ e. fit-whole (need-none (slotsFit bs) badSlots e), λ h. rw (whole-fit h))
+  slots-accepted = (λ e. fit-whole (need-none (slotsFit bs) badSlots none e .0), λ h. rw (whole-fit h))

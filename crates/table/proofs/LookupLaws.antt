@@ -1,6 +1,5 @@
 -- What a lookup comes to, from the slot that is found. Assumes nothing.
 use mathlib.Core.Path.{_≡_, refl, sym, ap, _∙_}
-use mathlib.Core.Bool.{Bool, true, false}
 use mathlib.Core.List.{List}
 use mathlib.Core.Option.{Option, none, some}
 use Prim.Native.Nat.{ℕ, _*_, _≤_, _<_}
@@ -15,8 +14,8 @@ use Rattle.model.proofs.Slots.{found}
 use Rattle.ternary.specs.Sizes.{keySize, positions}
 use Rattle.buffers.specs.Parts.{splice}
 use Rattle.records.specs.Layout.{slotSize, reportSize, mostSlots}
-use Rattle.checks.specs.Refusals.{orElse, need}
 use Rattle.checks.specs.declared.refusal.Refusal.{Refusal}
+use Rattle.checks.proofs.RefusalLaws.{none-first, need-none}
 use Rattle.slots.specs.Slots.{slotCount, slots}
 use Rattle.slots.specs.Refusals.{slotsRefusal, WholeSlots}
 use Rattle.slots.proofs.SlotLaws.{slot-count, slot-at, slots-spell}
@@ -27,18 +26,6 @@ use Rattle.table.specs.Lookups.{roomRefusal, lookupRefusal, foundOf, fin
 use Rattle.table.specs.Lookups.{lookupAnswer, slotsAfterLookup, tableAfterLookup, outAfterLookup, LookedUp}
 use Rattle.table.specs.declared.lookup.Found.the-variants.{Refused as FoundRefused, Miss as FoundMiss, Slot as FoundSlot}
 use Rattle.table.specs.declared.lookup.LookupAnswer.the-variants.{Refused, Miss, Hit}
-
--- ---- tests in a row
-
--- where none of two is refused neither is
-pub neither : (o later : Option Refusal) → orElse o later ≡ none → (o ≡ none) × (later ≡ none)
-neither (some x) later e = let z : _≡_ {A = ℕ} 0 1 = cc in absurd (omega arith)
-neither none later e = (refl, e)
-
--- a test that does not refuse has passed, and so have the later ones
-pub passed : (b : Bool) (number : ℕ) (later : Option Refusal) → need b number later ≡ none → (b ≡ true) × (later ≡ none)
-passed true number later e = (refl, e)
-passed false number later e = let z : _≡_ {A = ℕ} 0 1 = cc in absurd (omega arith)
 
 -- ---- what is found
 
@@ -62,14 +49,14 @@ module _ (key table : List ℕ) (room : ℕ) where
   pub lookup-whole : lookupRefusal key table room ≡ none → WholeSlots table
   unfolding lookupRefusal
   lookup-whole e =
-      slots-accepted table .0 (neither (slotsRefusal table) _ (neither (keyRefusal key) _ e .1) .0)
+      slots-accepted table .0 (none-first (slotsRefusal table) _ (none-first (keyRefusal key) _ e .1) .0)
 
   -- and, on a hit, room for a report
   pub hit-room : (i : ℕ) → lookupRefusal key table room ≡ none → firstFor positions (slots keySize table) key ≡ some i → reportSize ≤ room
   unfolding lookupRefusal
   hit-room i e f =
-      let h : roomRefusal room ≡ none = rw f at (neither (slotsRefusal table) _ (neither (keyRefusal key) _ e .1) .1) in
-      leb-true reportSize room (passed (leb reportSize room) _ none h .0)
+      let h : roomRefusal room ≡ none = rw f at (none-first (slotsRefusal table) _ (none-first (keyRefusal key) _ e .1) .1) in
+      leb-true reportSize room (need-none (leb reportSize room) _ none h .0)
 
   module _ (i : ℕ) (e : FoundSlot i ≡ findAnswer key table room) where
     hit-there : (lookupRefusal key table room ≡ none) × (firstFor positions (slots keySize table) key ≡ some i)

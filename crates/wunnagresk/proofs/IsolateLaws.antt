@@ -1,5 +1,5 @@
 -- What the answer that isolates comes to with an output: each way out of the call. Assumes nothing.
-use mathlib.Core.Path.{_≡_, refl, ap, _∙_}
+use mathlib.Core.Path.{_≡_, ap, _∙_}
 use mathlib.Core.List.{List, _++_}
 use mathlib.Core.Option.{Option, none, some}
 use Prim.Native.Nat.{ℕ, _≤_, _<_}
@@ -17,7 +17,7 @@ use Rattle.isolate.specs.Answers.{isolateRefusal, answerOf, isolatedAnswer, iso
 use Rattle.isolate.specs.declared.IsolateAnswer.{IsolateAnswer}
 use Rattle.isolate.specs.declared.Said.{Said}
 use Rattle.isolate.specs.declared.Said.the-variants.{Refused, Isolated}
-use Rattle.isolate.proofs.Promise.{answer-isolates}
+use Rattle.isolate.proofs.Promise.{isolated-of, answer-isolates}
 use Rattle.answers.specs.Isolate.{patternSize, patternRefusal, refusedCounts, isolatedCounts}
 use Rattle.answers.specs.declared.structs.WgIsolated.{WgIsolated}
 use Rattle.wunnagresk.specs.PolicyCalls.{isolatedIn, IsolateCall}
@@ -25,10 +25,6 @@ use Rattle.wunnagresk.specs.PolicyCalls.{isolatedIn, IsolateCall}
 of-refused : (o : Option Refusal) (x : IsolatedRule) (r : Refusal) → (answerOf o x) .said ≡ Refused r → o ≡ some r
 of-refused (some s) x r e = cc
 of-refused none x r e = let z : _≡_ {A = ℕ} 0 1 = cc in absurd (omega arith)
-
-of-isolated : (o : Option Refusal) (x : IsolatedRule) → (answerOf o x) .said ≡ Isolated → o ≡ none
-of-isolated (some s) x e = let z : _≡_ {A = ℕ} 0 1 = cc in absurd (omega arith)
-of-isolated none x e = refl
 
 module _ (policy key : List ℕ) (number : ℕ) (a : IsolateAnswer) (e : a ≡ isolateAnswer policy key number) where
   said-so : (s : Said) → a .said ≡ s → (isolateAnswer policy key number) .said ≡ s
@@ -41,7 +37,7 @@ module _ (policy key : List ℕ) (number : ℕ) (a : IsolateAnswer) (e : a ≡ i
   module _ (t : a .said ≡ Isolated) where
     free : isolateRefusal policy key number ≡ none
     unfolding isolateAnswer
-    free = of-isolated (isolateRefusal policy key number) (isolatedIn policy key number) (said-so Isolated t)
+    free = isolated-of (isolateRefusal policy key number) (isolatedIn policy key number) (said-so Isolated t)
 
     -- the answer is the model's rule
     rule-told : a ≡ isolatedAnswer (isolatedIn policy key number)
