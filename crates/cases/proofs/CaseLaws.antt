@@ -25,6 +25,15 @@ part-there from n s l = rw (le-leb (from + n) (length s) l)
 pub part-lent : (from n : ℕ) (s : List ℕ) → from + n ≤ length s → take (from + n - from) (drop from s) ≡ partIn from n s
 part-lent from n s l = let e : from + n - from ≡ n = omega arith in rw e (part-there from n s l)
 
+-- a part ends where s does, or before
+pub part-within : (from n : ℕ) (s : List ℕ) → length (partIn from n s) ≤ length s - from
+part-within from n s =
+    by-cases (leb (from + n) (length s))
+    (λ e.
+    let l = leb-true (from + n) (length s) e in
+    omega (arith, ap length (part-there from n s l), part-length n from s l))
+    (λ e. omega (arith, ap length (part-missing from n s (leb-false (from + n) (length s) e))))
+
 -- a number of which bytes are missing, and a whole one
 module _ {q : List ℕ} (at : ℕ) (s : List ℕ) (is : q ≡ partIn at 4 s) where
   pub number-missing : length q < 4 → 0 ≡ numberAt at s

@@ -1,25 +1,19 @@
 // Asks what the program prints of the files of each case of cases.bin, whose bytes are parts of parts.bin; prints the case's label, then the text.
 // tests/data/replay_cases.py says how the two files are laid out, and makes them.
-use cases::part;
-use cases::part_of;
-use libc::STDOUT_FILENO;
-ghost use mathlib.Core.Path.{_≡_};
-ghost use Prim.Native.Nat.{_≤_, _<_};
+use cases::files;
+use cases::parts::part_of;
+use cases::questions::label;
+use cases::questions::question;
+use cases::say::UNTOUCHED;
+use cases::say::say;
+ghost use Prim.Native.Nat.{_≤_};
 ghost use lib.ListN.{length};
 ghost use Rattle.printed.specs.Text.{mostText};
 
 // A case's record: label's length, zero 3, then where each part begins and how long it is (slots.txt, policy.bin, trace.bin); then the label.
 const HEADER: usize = 28;
-
-fn say(text: &[u8]) {
-    io::write_all(STDOUT_FILENO, text);
-}
-
-fn wide8(x: u8) -> usize
-    ensures { λ r. ⌜ r < 256 ⌝ }
-{
-    x as usize
-}
+// Where the label's length is.
+const LENGTHS: usize = 0;
 
 // The text of one case, by way of `out`.
 fn ask_in(question: &[u8], parts: &[u8], out: &mut [u8])
@@ -33,16 +27,14 @@ fn ask_in(question: &[u8], parts: &[u8], out: &mut [u8])
 }
 
 // Room for every text, none of it zero.
-fn room() -> [u8; printed::MOST_TEXT]
-    ensures { λ r. ⌜ mostText ≡ length r ⌝ }
-{
-    [238; printed::MOST_TEXT]
+fn room() -> [u8; printed::MOST_TEXT] {
+    [UNTOUCHED; printed::MOST_TEXT]
 }
 
-// One case: its record, and its label's length.
-fn ask(question: &[u8], parts: &[u8], label: usize) {
+// One case: its label, and the text.
+fn ask(question: &[u8], parts: &[u8]) {
     let mut out = room();
-    say(part(question, HEADER, label));
+    say(label(question, HEADER, LENGTHS));
     say(b"\n");
     ask_in(question, parts, &mut out);
 }
@@ -51,24 +43,19 @@ fn ask(question: &[u8], parts: &[u8], label: usize) {
 fn ask_all(parts: &[u8], cases: &[u8]) {
     let mut at: usize = 0;
     while at < cases.len() {
-        let rest = &cases[at..];
-        if rest.len() < HEADER {
+        let one = question(cases, at, HEADER, LENGTHS);
+        if one.len() == 0 {
             return;
         }
-        let label = wide8(rest[0]);
-        let whole = HEADER + label;
-        if rest.len() < whole {
-            return;
-        }
-        ask(part(rest, 0, whole), parts, label);
-        at += whole;
+        ask(one, parts);
+        at += one.len();
     }
 }
 
 fn main() {
-    let mut parts = [0u8; 262144];
-    let mut cases = [0u8; 32768];
-    let p = io::read_full(os::open_read(b"parts.bin"), &mut parts);
-    let c = io::read_full(os::open_read(b"cases.bin"), &mut cases);
+    let mut parts = files::room();
+    let mut cases = io::large_buffer();
+    let p = files::read(b"parts.bin", &mut parts);
+    let c = files::read(b"cases.bin", &mut cases);
     ask_all(&parts[..p], &cases[..c]);
 }

@@ -5,10 +5,10 @@ use Rattle.policy_test.proofs.say_list.Statement.{statement}
 use Rattle.policy_test.proofs.say_list.Tie as tie
 
 abbrev Inv-loop : tie.InvT-loop
-Inv-loop out n i₀ i = i ≤ 2048
+Inv-loop out n i₀ word i = i ≤ 2048
 
 abbrev μ-loop : tie.MeasureT-loop
-μ-loop out n i₀ i = 2048 - i
+μ-loop out n i₀ word i = 2048 - i
 
 pub say-list-spec : {M : Type 1} → statement M
 say-list-spec =
@@ -16,6 +16,9 @@ say-list-spec =
     (tie.spec
     Inv-loop
     μ-loop
+    (λ c. search needs)
+    (λ c. search needs)
+    (λ c. search needs)
     (λ c. search needs)
     (λ c. search needs)
     (λ c. search needs)

@@ -1,18 +1,17 @@
--- `policy_test::say_kept` is safe and ends: i is at most the length. Assumes nothing.
+-- `cases::slots::say_slots` is safe and ends: i is at most 258. Assumes nothing.
 use borrow.Author.Needs.{needs}
 use Prim.Native.Nat.{_≤_, _-_}
-use lib.ListN.{length}
-use Rattle.policy_test.proofs.say_kept.Statement.{statement}
-use Rattle.policy_test.proofs.say_kept.Tie as tie
+use Rattle.cases.proofs.slots.say_slots.Statement.{statement}
+use Rattle.cases.proofs.slots.say_slots.Tie as tie
 
 abbrev Inv-loop : tie.InvT-loop
-Inv-loop out n i₀ i = i ≤ length out
+Inv-loop word old new i₀ i = i ≤ 258
 
 abbrev μ-loop : tie.MeasureT-loop
-μ-loop out n i₀ i = length out - i
+μ-loop word old new i₀ i = 258 - i
 
-pub say-kept-spec : {M : Type 1} → statement M
-say-kept-spec =
+pub say-slots-spec : {M : Type 1} → statement M
+say-slots-spec =
     tie.close
     (tie.spec
     Inv-loop

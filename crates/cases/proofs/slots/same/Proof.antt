@@ -1,10 +1,10 @@
--- `ends_test::same` is safe and ends: i is at most the length of both parts. Assumes nothing.
+-- `cases::slots::same` is safe and ends: i is at most the length of both parts. Assumes nothing.
 use borrow.Author.Needs.{needs}
 use mathlib.Core.Path.{_≡_}
 use Prim.Native.Nat.{_≤_, _-_}
 use lib.ListN.{length}
-use Rattle.ends_test.proofs.same.Statement.{statement}
-use Rattle.ends_test.proofs.same.Tie as tie
+use Rattle.cases.proofs.slots.same.Statement.{statement}
+use Rattle.cases.proofs.slots.same.Tie as tie
 
 abbrev Inv-loop : tie.InvT-loop
 Inv-loop a b i₀ i = (i ≤ length a) × (length a ≡ length b)

@@ -1,8 +1,8 @@
--- `cases::part` meets its contract: the part that is lent, or none. Assumes nothing.
+-- `cases::parts::part` meets its contract: the part that is lent, or none. Assumes nothing.
 use borrow.Author.Needs.{needs}
 use Rattle.cases.proofs.CaseLaws.{part-missing, part-lent}
-use Rattle.cases.proofs.part.Statement.{statement}
-use Rattle.cases.proofs.part.Tie as tie
+use Rattle.cases.proofs.parts.part.Statement.{statement}
+use Rattle.cases.proofs.parts.part.Tie as tie
 
 returns : tie.Need-returns
 returns c = part-missing _ _ _ (search needs)

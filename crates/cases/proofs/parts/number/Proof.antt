@@ -1,15 +1,17 @@
--- `cases::number` meets its contract: four bytes are read, or some are missing. Assumes nothing.
+-- `cases::parts::number` meets its contract: four bytes are read, or some are missing. Assumes nothing.
 use borrow.Author.Needs.{needs}
 use mathlib.Core.Path.{_∙_}
 use Rattle.cases.proofs.CaseLaws.{number-missing, number-there}
-use Rattle.cases.proofs.number.Statement.{statement}
-use Rattle.cases.proofs.number.Tie as tie
+use Rattle.cases.proofs.parts.number.Statement.{statement}
+use Rattle.cases.proofs.parts.number.Tie as tie
 
 returns : tie.Need-returns
 returns c = number-missing _ _ (c .before .part .ensures) (c .if1 .taken)
 
 returns-2 : tie.Need-returns-2
-returns-2 c = c .wide .ensures ∙ c .before .be32 .ensures ∙ number-there _ _ (c .before .before .before .part .ensures) (c .before .before .if1 .left)
+returns-2 c =
+    let c2 = c .before .before in
+    c .wide .ensures ∙ c .before .be32 .ensures ∙ number-there _ _ (c2 .before .part .ensures) (c2 .if1 .left)
 
 pub number-spec : {M : Type 1} → statement M
 number-spec =
