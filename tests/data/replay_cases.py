@@ -20,6 +20,7 @@ def packets(*texts):
 
 # the printed example
 TRACE = packets('1000', '0000', '1010', '1001', '1111', '0100')
+TWO = b'2\n'
 
 # a text that gives no number of slots
 BAD_SLOTS = [b'', b'\n', b'0\n', b'00\n', b'01\n', b'002\n', b'257\n', b'260\n', b'300\n', b'999\n', b'1000\n', b'2560\n', b'65536\n', b'2',
@@ -107,21 +108,27 @@ def program(name, files, text):
     return {**{f'crates/replay_{name}/data/{path}': data for path, data in files.items()}, f'crates/replay_{name}/stdout': text.encode()}
 
 
+def refused():
+    """Files that are missing, that can't be read or that are too long: each case in a folder of its own, told by the folder's name and the text."""
+    policy, trace, slots = 'policy.bin', 'trace.bin', 'slots.txt'
+    cases = {'missing': {},
+             # a folder in the place of policy.bin, which counts as empty
+             'folder': {f'{policy}/kept': POLICY, trace: TRACE, slots: TWO},
+             'large_policy': {policy: bytes(MOST_POLICY_BYTES + 1), slots: TWO},
+             'large_trace': {policy: POLICY, trace: bytes(MOST_TRACE_BYTES + 1), slots: TWO}}
+    text = ''.join(f'{name}\n{printed(*(files.get(path, b"") for path in (slots, policy, trace)))}' for name, files in cases.items())
+    return program('refused', {f'{name}/{path}': data for name, files in cases.items() for path, data in files.items()}, text)
+
+
 def make():
     """The files of the programs, by their paths in the repository."""
     cases = Cases()
     large(cases)
     refusals(cases)
     runs(cases)
-    two = b'2\n'
-    example = {'policy.bin': POLICY, 'trace.bin': TRACE, 'slots.txt': two}
-    over = bytes(MOST_POLICY_BYTES + 1), bytes(MOST_TRACE_BYTES + 1)
+    example = {'policy.bin': POLICY, 'trace.bin': TRACE, 'slots.txt': TWO}
     return {**{f'examples/small/{path}': data for path, data in example.items()},
-            **program('example', example, printed(two, POLICY, TRACE)),
-            **program('missing', {}, printed(b'', b'', b'')),
-            # a folder in the place of policy.bin, which counts as empty
-            **program('folder', {'policy.bin/kept': POLICY, 'trace.bin': TRACE, 'slots.txt': two}, printed(two, b'', TRACE)),
-            **program('large_policy', {'policy.bin': over[0], 'slots.txt': two}, printed(two, over[0], b'')),
-            **program('large_trace', {'policy.bin': POLICY, 'trace.bin': over[1], 'slots.txt': two}, printed(two, POLICY, over[1])),
+            **program('example', example, printed(TWO, POLICY, TRACE)),
+            **refused(),
             'crates/replay_test/data/parts.bin': cases.parts, 'crates/replay_test/data/cases.bin': cases.cases,
             'crates/replay_test/stdout': cases.text.encode()}

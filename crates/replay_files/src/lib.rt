@@ -1,7 +1,6 @@
-// The program: reads slots.txt, policy.bin and trace.bin from its folder, and prints what they come to.
+// The program: reads slots.txt, policy.bin and trace.bin, and prints what they come to.
 use libc::STDOUT_FILENO;
 use records::layout;
-ghost use mathlib.Core.Path.{_≡_};
 ghost use Prim.Native.Nat.{_≤_};
 ghost use lib.ListN.{length};
 ghost use Rattle.printed.specs.Text.{mostText};
@@ -80,10 +79,17 @@ fn print_in(slots: &[u8], policy: &[u8], trace: &[u8], text: &mut [u8])
     }
 }
 
-// Room for every text.
-fn text_room() -> [u8; printed::MOST_TEXT]
-    ensures { λ r. ⌜ mostText ≡ length r ⌝ }
-{
+// Room for a policy's file, for a trace's file and for every text.
+
+fn policy_room() -> [u8; POLICY_ROOM] {
+    [0; POLICY_ROOM]
+}
+
+fn trace_room() -> [u8; TRACE_ROOM] {
+    [0; TRACE_ROOM]
+}
+
+fn text_room() -> [u8; printed::MOST_TEXT] {
     [0; printed::MOST_TEXT]
 }
 
@@ -93,13 +99,18 @@ fn print(slots: &[u8], policy: &[u8], trace: &[u8]) {
     print_in(slots, policy, trace, &mut text);
 }
 
+// Runs the program over the files of these names.
+pub fn run(slots_name: &[u8], policy_name: &[u8], trace_name: &[u8]) {
+    let mut slots = [0u8; SLOTS_ROOM];
+    let mut policy = policy_room();
+    let mut trace = trace_room();
+    let s = read_file(slots_name, &mut slots);
+    let p = read_file(policy_name, &mut policy);
+    let t = read_file(trace_name, &mut trace);
+    print(&slots[..s], &policy[..p], &trace[..t]);
+}
+
 // Runs the program in the folder that it was started in.
 pub fn run_here() {
-    let mut slots = [0u8; SLOTS_ROOM];
-    let mut policy = [0u8; POLICY_ROOM];
-    let mut trace = [0u8; TRACE_ROOM];
-    let s = read_file(b"slots.txt", &mut slots);
-    let p = read_file(b"policy.bin", &mut policy);
-    let t = read_file(b"trace.bin", &mut trace);
-    print(&slots[..s], &policy[..p], &trace[..t]);
+    run(b"slots.txt", b"policy.bin", b"trace.bin");
 }

@@ -1,4 +1,0 @@
-// The program, in its folder.
-fn main() {
-    replay_files::run_here();
-}
