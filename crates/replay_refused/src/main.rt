@@ -9,22 +9,42 @@ fn case(line: &[u8], slots: &[u8], policy: &[u8], trace: &[u8]) {
 
 // No file is there.
 fn missing() {
-    case(b"missing\n", b"missing/slots.txt", b"missing/policy.bin", b"missing/trace.bin");
+    case(
+        b"missing\n",
+        b"missing/slots.txt",
+        b"missing/policy.bin",
+        b"missing/trace.bin",
+    );
 }
 
 // The policy's file is a folder, which counts as empty.
 fn folder() {
-    case(b"folder\n", b"folder/slots.txt", b"folder/policy.bin", b"folder/trace.bin");
+    case(
+        b"folder\n",
+        b"folder/slots.txt",
+        b"folder/policy.bin",
+        b"folder/trace.bin",
+    );
 }
 
 // The policy's file is one byte longer than a policy may be.
 fn large_policy() {
-    case(b"large_policy\n", b"large_policy/slots.txt", b"large_policy/policy.bin", b"large_policy/trace.bin");
+    case(
+        b"large_policy\n",
+        b"large_policy/slots.txt",
+        b"large_policy/policy.bin",
+        b"large_policy/trace.bin",
+    );
 }
 
 // The trace's file is one byte longer than a trace may be.
 fn large_trace() {
-    case(b"large_trace\n", b"large_trace/slots.txt", b"large_trace/policy.bin", b"large_trace/trace.bin");
+    case(
+        b"large_trace\n",
+        b"large_trace/slots.txt",
+        b"large_trace/policy.bin",
+        b"large_trace/trace.bin",
+    );
 }
 
 fn main() {
