@@ -32,7 +32,8 @@ static uint32_t ends_refusal(size_t table_len, size_t keeper_len, const struct w
         return WG_BAD_SLOTS;
     if (table_len != keeper_len)
         return WG_LENGTHS_DIFFER;
-    if (t->packets > WG_MOST_TOTAL || t->hits > WG_MOST_TOTAL || t->misses > WG_MOST_TOTAL || t->none > WG_MOST_TOTAL || t->evictions > WG_MOST_TOTAL)
+    if (t->packets > WG_MOST_TOTAL || t->hits > WG_MOST_TOTAL || t->misses > WG_MOST_TOTAL || t->none > WG_MOST_TOTAL
+        || t->evictions > WG_MOST_TOTAL)
         return WG_TOTALS_FULL;
     return out_len < needed ? WG_SHORT_OUTPUT : WG_ACCEPTED;
 }

@@ -285,8 +285,8 @@ struct wg_outcome wg_miss(const uint8_t *policy, size_t policy_len, const uint8_
  * Refuses: keeper WG_BAD_SLOTS; message WG_RAGGED, WG_WRONG_KIND, WG_BAD_RECORD, WG_NO_SUCH_SLOT, WG_SEQUENCE_ZERO, WG_REPORT_AHEAD. */
 struct wg_done wg_report(uint8_t *keeper, size_t keeper_len, const uint8_t *message, size_t message_len);
 
-/* The open slots, in rising order: answers how many, and writes two bytes for each to `out`. 2 * WG_MOST_SLOTS bytes are always enough. The keeper is
- * unchanged.
+/* The open slots, in rising order: answers how many, and writes two bytes for each to `out`. 2 * WG_MOST_SLOTS bytes are always enough.
+ * The keeper is unchanged.
  * Refuses: keeper WG_BAD_SLOTS; WG_SHORT_OUTPUT. */
 struct wg_count wg_open(const uint8_t *keeper, size_t keeper_len, uint8_t *out, size_t out_len);
 

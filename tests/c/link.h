@@ -17,7 +17,8 @@ struct plan {
 
 /* What has to have happened for a run to say anything. */
 enum event {
-    A_HIT, NO_RULE, TO_EMPTY, OVER_ENTRY, GIVEN_AGAIN, WRITE_STORED, WRITE_TOO_LATE, REPORT_SETTLES, REPORT_TOO_LATE, CALL_REFUSED, ENDS_APART, EVENTS
+    A_HIT, NO_RULE, TO_EMPTY, OVER_ENTRY, GIVEN_AGAIN, WRITE_STORED, WRITE_TOO_LATE, REPORT_SETTLES, REPORT_TOO_LATE,
+    CALL_REFUSED, ENDS_APART, EVENTS
 };
 
 /* What was found: nothing (0) or the check that reported, in which world and step, and in words. */
