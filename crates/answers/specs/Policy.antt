@@ -5,8 +5,8 @@ use Rattle.ternary.specs.Sizes.{keySize}
 use Rattle.records.specs.Layout.{ruleSize, slotSize}
 use Rattle.policy.specs.declared.PolicyAnswer.{PolicyAnswer}
 use Rattle.policy.specs.declared.PolicyAnswer.the-variants.{Refused as PolicyRefused, Rules}
-use Rattle.policy.specs.declared.BestAnswer.{BestAnswer}
-use Rattle.policy.specs.declared.BestAnswer.the-variants.{Refused as BestRefused, NoRule, Rule}
+use Rattle.best.specs.declared.BestAnswer.{BestAnswer}
+use Rattle.best.specs.declared.BestAnswer.the-variants.{Refused as BestRefused, NoRule, Rule}
 use Rattle.policy.specs.declared.RecordAnswer.{RecordAnswer}
 use Rattle.policy.specs.declared.RecordAnswer.the-variants.{Refused as RecordRefused, Shown}
 use Rattle.cover.specs.declared.CoverAnswer.{CoverAnswer}

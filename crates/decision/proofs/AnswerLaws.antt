@@ -22,7 +22,7 @@ use Rattle.slots.proofs.SlotLaws.{slot-count}
 use Rattle.slots.proofs.FitLaws.{fit-whole}
 use Rattle.policy.specs.Refusals.{policyRefusal, keyRefusal}
 use Rattle.policy.specs.Answers.{bestRefusal}
-use Rattle.policy.proofs.BestLaws.{best-below}
+use Rattle.best.proofs.BestLaws.{best-below}
 use Rattle.decision.specs.Answers.{showRefusal, shownIn, answerOf, showAnswer}
 use Rattle.decision.specs.declared.ShowAnswer.the-variants.{NoRule, FromTable, FromPolicy}
 

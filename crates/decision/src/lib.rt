@@ -35,9 +35,9 @@ pub fn show_answer(policy: &[u8], key: &[u8], table: &[u8]) -> ShowAnswer
     if let holding::Holding::At(i) = holding::first_holding(table, key) {
         return ShowAnswer::FromTable(i as u16);
     }
-    match policy::best_rule(policy, key) {
-        policy::BestFound::NoRule => ShowAnswer::NoRule,
-        policy::BestFound::Rule(number, _) => ShowAnswer::FromPolicy(number),
+    match best::best_rule(policy, key) {
+        best::BestFound::NoRule => ShowAnswer::NoRule,
+        best::BestFound::Rule(number, _) => ShowAnswer::FromPolicy(number),
     }
 }
 

@@ -42,9 +42,9 @@ fn may_isolate(policy: &[u8], key: &[u8], number: usize) -> Said
             if n <= number {
                 return refused(refusal::NO_SUCH_RULE);
             }
-            match policy::best_rule(policy, key) {
-                policy::BestFound::NoRule => refused(refusal::NOT_BEST),
-                policy::BestFound::Rule(best, _) => {
+            match best::best_rule(policy, key) {
+                best::BestFound::NoRule => refused(refusal::NOT_BEST),
+                best::BestFound::Rule(best, _) => {
                     if cover::numbers::wide(best) == number {
                         Said::Isolated
                     } else {

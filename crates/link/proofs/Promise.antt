@@ -30,8 +30,9 @@ use Rattle.slots.proofs.FitLaws.{slots-accepted}
 use Rattle.messages.specs.Writes.{decodeWrite}
 use Rattle.messages.specs.Reports.{decodeReport}
 use Rattle.policy.specs.Refusals.{policyRefusal, keyRefusal, AcceptedBytes}
-use Rattle.policy.specs.Best.{bestFound}
-use Rattle.policy.specs.Answers.{bestRefusal, bestAnswer}
+use Rattle.best.specs.Best.{bestFound}
+use Rattle.policy.specs.Answers.{bestRefusal}
+use Rattle.best.specs.Answers.{bestAnswer}
 use Rattle.policy.proofs.Acceptance.{accepted-bytes}
 use Rattle.table.specs.Lookups.{answerOf, lookupAnswer}
 use Rattle.received.specs.Writes.{writeCallRefusal}

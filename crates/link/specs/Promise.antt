@@ -13,9 +13,9 @@ use Rattle.buffers.specs.Parts.{part}
 use Rattle.records.specs.Layout.{reportSize, mostSlots}
 use Rattle.slots.specs.Slots.{slotIn}
 use Rattle.policy.specs.Refusals.{policyRefusal}
-use Rattle.policy.specs.Answers.{bestAnswer}
-use Rattle.policy.specs.declared.BestAnswer.{BestAnswer}
-use Rattle.policy.specs.declared.BestAnswer.the-variants.{Rule}
+use Rattle.best.specs.Answers.{bestAnswer}
+use Rattle.best.specs.declared.BestAnswer.{BestAnswer}
+use Rattle.best.specs.declared.BestAnswer.the-variants.{Rule}
 use Rattle.table.specs.Lookups.{lookupAnswer}
 use Rattle.table.specs.declared.lookup.LookupAnswer.{LookupAnswer}
 use Rattle.table.specs.declared.lookup.LookupAnswer.the-variants.{Refused, Miss, Hit}

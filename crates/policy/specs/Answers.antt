@@ -11,11 +11,6 @@ use Rattle.records.specs.Rules.{ruleCount}
 use Rattle.checks.specs.declared.refusal.Refusal.{Refusal}
 use Rattle.checks.specs.Refusals.{orElse, need}
 use Rattle.policy.specs.Refusals.{policyRefusal, keyRefusal}
-use Rattle.policy.specs.Best.{bestFound}
-use Rattle.policy.specs.declared.BestFound.{BestFound}
-use Rattle.policy.specs.declared.BestFound.the-variants.{NoRule as FoundNone, Rule as FoundRule}
-use Rattle.policy.specs.declared.BestAnswer.{BestAnswer}
-use Rattle.policy.specs.declared.BestAnswer.the-variants.{Refused as BestRefused, NoRule, Rule}
 use Rattle.policy.specs.declared.RecordAnswer.{RecordAnswer}
 use Rattle.policy.specs.declared.RecordAnswer.the-variants.{Refused as RecordRefused, Shown}
 use Rattle.policy.specs.declared.PolicyAnswer.{PolicyAnswer}
@@ -32,15 +27,6 @@ checkAnswer bs = checkOf (policyRefusal bs) (ruleCount keySize bs)
 -- policy 1, 2, 3; key 1
 unfoldable pub bestRefusal : List ℕ → List ℕ → Option Refusal
 bestRefusal bs key = orElse (policyRefusal bs) (keyRefusal key)
-
--- the refusal, or the best rule
-abbrev pub bestOf : Option Refusal → BestFound → BestAnswer
-bestOf (some r) found = BestRefused r
-bestOf none FoundNone = NoRule
-bestOf none (FoundRule number action) = Rule number action
-
-unfoldable pub bestAnswer : List ℕ → List ℕ → BestAnswer
-bestAnswer bs key = bestOf (bestRefusal bs key) (bestFound bs key)
 
 -- policy 1, 2, 3; then 6
 unfoldable pub recordRefusal : List ℕ → ℕ → Option Refusal

@@ -1,4 +1,3 @@
 -- The policy that a caller lends: how it is refused, and what is answered from it.
 pub mod Refusals
-pub mod Best
 pub mod Answers

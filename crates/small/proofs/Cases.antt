@@ -16,9 +16,10 @@ use Rattle.buffers.specs.Parts.{splice, recordsIn, spelled}
 use Rattle.records.specs.Rules.{decodeRule, rules}
 use Rattle.checks.specs.Flaws.{ruleFlaw, firstFlawed}
 use Rattle.policy.specs.Refusals.{policyRefusal, keyRefusal}
-use Rattle.policy.specs.Best.{bestFound}
-use Rattle.policy.specs.Answers.{bestRefusal, bestAnswer}
-use Rattle.policy.specs.declared.BestAnswer.the-variants.{NoRule}
+use Rattle.best.specs.Best.{bestFound}
+use Rattle.policy.specs.Answers.{bestRefusal}
+use Rattle.best.specs.Answers.{bestAnswer}
+use Rattle.best.specs.declared.BestAnswer.the-variants.{NoRule}
 use Rattle.cover.specs.Answers.{coverRefusal}
 use Rattle.isolate.specs.Answers.{isolateRefusal, isolateAnswer}
 use Rattle.small.specs.Cases.{smallRule, smallBytes, Case, bestCase, output, coverCase, isolateCase, smallCases}

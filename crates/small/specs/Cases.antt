@@ -3,9 +3,9 @@ use mathlib.Core.List.{List, [], _∷_, _++_}
 use Prim.Native.Nat.{ℕ}
 use lib.ListN.{length}
 use Rattle.model.specs.Small.{row}
-use Rattle.policy.specs.Answers.{bestAnswer}
-use Rattle.policy.specs.declared.BestAnswer.{BestAnswer}
-use Rattle.policy.specs.declared.BestAnswer.the-variants.{NoRule, Rule}
+use Rattle.best.specs.Answers.{bestAnswer}
+use Rattle.best.specs.declared.BestAnswer.{BestAnswer}
+use Rattle.best.specs.declared.BestAnswer.the-variants.{NoRule, Rule}
 use Rattle.cover.specs.Answers.{coverRefusal, coverList, numberBytes, answerOf, outOf}
 use Rattle.cover.specs.declared.CoverAnswer.{CoverAnswer}
 use Rattle.cover.specs.declared.CoverAnswer.the-variants.{Count}

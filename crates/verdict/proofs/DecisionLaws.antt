@@ -26,10 +26,10 @@ use Rattle.slots.proofs.SlotLaws.{slot-count, slot-at}
 use Rattle.holding.proofs.HoldingLaws.{found-nowhere, found-at}
 use Rattle.messages.specs.Structs.{asWrite}
 use Rattle.outcomes.specs.Outcomes.{asOutcome}
-use Rattle.policy.specs.Best.{bestFound}
-use Rattle.policy.specs.declared.BestFound.{BestFound}
-use Rattle.policy.specs.declared.BestFound.the-variants.{NoRule, Rule}
-use Rattle.policy.proofs.BestLaws.{found-none, found-rule, found-action, best-below}
+use Rattle.best.specs.Best.{bestFound}
+use Rattle.best.specs.declared.BestFound.{BestFound}
+use Rattle.best.specs.declared.BestFound.the-variants.{NoRule, Rule}
+use Rattle.best.proofs.BestLaws.{found-none, found-rule, found-action, best-below}
 use Rattle.verdict.specs.Decisions.{Fine, RuleFor, deciding, missWith, placeMiss, ruleMiss, missIn, DecidedAs, NoWrite, placedOutcome}
 use Rattle.verdict.specs.declared.Decision.{Decision}
 

@@ -163,8 +163,8 @@ pub fn decide(policy: &[u8], key: &[u8], keeper: &[u8]) -> Decision
     ensures { λ r. ⌜ DecidedAs (now (policy .entry)) (now (keeper .entry))
         (missIn (now (policy .entry)) (now (key .entry)) (now (keeper .entry))) r ⌝ }
 {
-    match policy::best_rule(policy, key) {
-        policy::BestFound::NoRule => no_write(kinds::NO_RULE, 0, kinds::NOTHING),
-        policy::BestFound::Rule(number, action) => with_rule(policy, key, keeper, number, action),
+    match best::best_rule(policy, key) {
+        best::BestFound::NoRule => no_write(kinds::NO_RULE, 0, kinds::NOTHING),
+        best::BestFound::Rule(number, action) => with_rule(policy, key, keeper, number, action),
     }
 }

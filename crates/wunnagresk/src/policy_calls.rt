@@ -8,7 +8,8 @@ use checks::refusal;
 use checks::refusal::Refusal;
 use records::layout;
 ghost use mathlib.Core.Path.{_≡_};
-ghost use Rattle.policy.specs.Answers.{checkAnswer, bestAnswer, recordAnswer};
+ghost use Rattle.policy.specs.Answers.{checkAnswer, recordAnswer};
+ghost use Rattle.best.specs.Answers.{bestAnswer};
 ghost use Rattle.decision.specs.Answers.{showAnswer};
 ghost use Rattle.answers.specs.Policy.{checkedNumbers, bestNumbers, recordNumbers, shownNumbers};
 ghost use Rattle.wunnagresk.specs.PolicyCalls.{CoverCall, IsolateCall};
@@ -26,7 +27,7 @@ pub extern "C" fn wg_check(policy: &[u8]) -> WgCount
 pub extern "C" fn wg_best(policy: &[u8], key: &[u8]) -> WgBestAnswer
     ensures { λ r. ⌜ r ≡ bestNumbers (bestAnswer (now (policy .entry)) (now (key .entry))) ⌝ }
 {
-    answers::policy_answers::best_numbers(policy::best(policy, key))
+    answers::policy_answers::best_numbers(best::best(policy, key))
 }
 
 // Where the record of that number lies in the policy.

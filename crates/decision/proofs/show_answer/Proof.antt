@@ -14,7 +14,7 @@ use Rattle.holding.proofs.HoldingLaws.{found-nowhere, found-at}
 use Rattle.policy.specs.Refusals.{policyRefusal, keyRefusal}
 use Rattle.policy.specs.Answers.{bestRefusal}
 use Rattle.policy.proofs.CheckLaws.{check-refused, check-passed, passed-few}
-use Rattle.policy.proofs.BestLaws.{found-none, found-rule}
+use Rattle.best.proofs.BestLaws.{found-none, found-rule}
 use Rattle.decision.specs.Answers.{showRefusal, showAnswer}
 use Rattle.decision.proofs.AnswerLaws.{says-slot, says-rule, says-none, slot-few}
 use Rattle.decision.proofs.show_answer.Statement.{statement}

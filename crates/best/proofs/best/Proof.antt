@@ -1,13 +1,14 @@
--- `policy::best` meets its contract: at each `return` the tests that led there say which answer it is. Assumes nothing.
+-- `best::best` meets its contract: at each `return` the tests that led there say which answer it is. Assumes nothing.
 use borrow.Author.Needs.{needs}
 use mathlib.Core.Path.{_≡_, sym, _∙_}
 use mathlib.Core.Option.{none}
 use borrow.Author.Tests.{eq-eqb, ne-eqb}
 use Rattle.policy.specs.Refusals.{policyRefusal, keyRefusal}
-use Rattle.policy.specs.Answers.{bestRefusal, bestAnswer}
+use Rattle.policy.specs.Answers.{bestRefusal}
 use Rattle.policy.proofs.CheckLaws.{check-refused, check-passed, passed-few}
-use Rattle.policy.proofs.best.Statement.{statement}
-use Rattle.policy.proofs.best.Tie as tie
+use Rattle.best.specs.Answers.{bestAnswer}
+use Rattle.best.proofs.best.Statement.{statement}
+use Rattle.best.proofs.best.Tie as tie
 
 returns : tie.Need-returns
 unfolding bestAnswer bestRefusal

@@ -5,8 +5,8 @@ use Prim.Native.Nat.{ℕ}
 use Rattle.model.specs.Policy.{Rule as PolicyRule, ruleAt, best}
 use Rattle.ternary.specs.Sizes.{keySize, positions}
 use Rattle.records.specs.Rules.{rules}
-use Rattle.policy.specs.declared.BestFound.{BestFound}
-use Rattle.policy.specs.declared.BestFound.the-variants.{NoRule, Rule}
+use Rattle.best.specs.declared.BestFound.{BestFound}
+use Rattle.best.specs.declared.BestFound.the-variants.{NoRule, Rule}
 
 -- the rule of that number, with its action
 abbrev pub foundOf : List PolicyRule → Option ℕ → BestFound

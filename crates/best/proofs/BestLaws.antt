@@ -10,8 +10,8 @@ use Rattle.model.proofs.OrderLaws.{foremost-some}
 use Rattle.ternary.specs.Sizes.{keySize, positions}
 use Rattle.records.specs.Rules.{ruleCount, rules}
 use Rattle.records.proofs.RuleLaws.{rule-count}
-use Rattle.policy.specs.Best.{foundOf, bestFound}
-use Rattle.policy.specs.declared.BestFound.the-variants.{NoRule, Rule}
+use Rattle.best.specs.Best.{foundOf, bestFound}
+use Rattle.best.specs.declared.BestFound.the-variants.{NoRule, Rule}
 
 none-of : (pol : List PolicyRule) (o : Option ℕ) → foundOf pol o ≡ NoRule → o ≡ none
 none-of pol none e = refl

@@ -1,4 +1,4 @@
--- `policy::best_rule` meets its contract: of the rules below i the best is kept. Assumes nothing.
+-- `best::best_rule` meets its contract: of the rules below i the best is kept. Assumes nothing.
 use borrow.Author.Needs.{needs}
 use mathlib.Core.Path.{sym, _∙_}
 use mathlib.Core.Logic.{⊎-elim}
@@ -9,9 +9,9 @@ use Rattle.model.proofs.BestLoop.{BestSoFar, best-none, best-passed, best-first
 use Rattle.ternary.specs.Sizes.{keySize, positions}
 use Rattle.records.specs.Rules.{rules}
 use Rattle.records.proofs.RuleLaws.{rule-count}
-use Rattle.policy.specs.Best.{bestFound}
-use Rattle.policy.proofs.best_rule.Statement.{statement}
-use Rattle.policy.proofs.best_rule.Tie as tie
+use Rattle.best.specs.Best.{bestFound}
+use Rattle.best.proofs.best_rule.Statement.{statement}
+use Rattle.best.proofs.best_rule.Tie as tie
 
 abbrev Inv-loop : tie.InvT-loop
 Inv-loop policy key n found₀ number₀ priority₀ i₀ found number priority i =

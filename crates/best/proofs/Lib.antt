@@ -1,0 +1,2 @@
+-- Laws of the best rule, for its callers.
+pub mod BestLaws

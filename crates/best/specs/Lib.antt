@@ -1,0 +1,3 @@
+-- The best rule of a key, and what the call for it answers.
+pub mod Best
+pub mod Answers
