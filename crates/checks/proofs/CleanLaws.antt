@@ -4,23 +4,20 @@ use mathlib.Core.Bool.{true, false}
 use mathlib.Core.List.{List, [], _∷_}
 use mathlib.Core.Option.{Option, none, some, Option·map}
 use mathlib.Core.Logic.{_↔_}
-use Prim.Native.Nat.{ℕ, _+_, _*_, _<_}
+use Prim.Native.Nat.{ℕ, _+_, _*_}
 use native.Mathlib.Omega.{arith}
-use lib.Dec.{ltb, eqb}
+use lib.Dec.{eqb}
 use lib.ListN.{getD}
 use borrow.Author.Tests.{eqb-true, eq-eqb}
-use Rattle.model.specs.Below.{firstBelow}
 use Rattle.model.specs.Pattern.{canonical}
 use Rattle.model.proofs.Cases.{by-cases}
-use Rattle.model.proofs.OrderLaws.{foremost-none, first-missed}
 use Rattle.bits.proofs.StrayLaws.{canonical-clean, clean-canonical}
 use Rattle.buffers.specs.Parts.{part}
 use Rattle.records.specs.Layout.{ruleValue, ruleMask, writeValue, writeMask}
-use Rattle.checks.specs.Flaws.{Zeros, firstNonzero, strayIn, flawOf, isFlawed, checkedOf, firstFlawed}
+use Rattle.checks.specs.Flaws.{Zeros, firstNonzero, strayIn, flawOf, isFlawed}
 use Rattle.checks.specs.Flaws.{ruleSpares, traceSpares, writeSpares, reportSpares, ruleFlaw, traceFlaw, writeFlaw, reportFlaw}
 use Rattle.checks.specs.declared.flaw.Flaw.{Flaw}
 use Rattle.checks.specs.declared.flaw.Flaw.the-variants.{Clean, Spare, Stray}
-use Rattle.checks.specs.declared.flaw.Checked.the-variants.{AllClean}
 
 zeros-of : (ats c : List ℕ) → firstNonzero ats c ≡ none → Zeros ats c
 zeros-of [] c e = tt
@@ -75,20 +72,8 @@ pub report-clean : (c : List ℕ) → (reportFlaw c ≡ Clean) ↔ Zeros reportS
 unfolding reportFlaw
 report-clean c = spare-iff reportSpares c
 
--- ---- all records are clean
-
+-- what is no flaw is clean
 pub clean-of : (x : Flaw) → isFlawed x ≡ false → x ≡ Clean
 clean-of Clean e = refl
 clean-of (Spare at) e = let z : _≡_ {A = ℕ} 0 1 = cc in absurd (omega arith)
 clean-of (Stray at) e = let z : _≡_ {A = ℕ} 0 1 = cc in absurd (omega arith)
-
-all-clean-none : (f : ℕ → Flaw) (o : Option ℕ) → checkedOf f o ≡ AllClean → o ≡ none
-all-clean-none f none e = refl
-all-clean-none f (some i) e = let z : _≡_ {A = ℕ} 0 1 = cc in absurd (omega arith)
-
-pub all-clean : (f : ℕ → Flaw) (n : ℕ) → (firstFlawed f n ≡ AllClean) ↔ ((i : ℕ) → i < n → f i ≡ Clean)
-unfolding firstFlawed
-all-clean f n = (
-  λ e i l. clean-of (f i) (foremost-none (λ k. isFlawed (f k)) ltb n (all-clean-none f (firstBelow (λ k. isFlawed (f k)) n) e) i l),
-  λ h. ap (checkedOf f) (first-missed (λ k. isFlawed (f k)) n n (record { at = λ k l. ap isFlawed (h k l) }) (omega arith)),
-)

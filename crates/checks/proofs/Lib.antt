@@ -1,4 +1,4 @@
--- Laws of flaws: the search for one, and what a clean record is.
+-- Laws of flaws: where a stray bit lies, and what a clean record is.
 pub mod FlawLaws
 pub mod CleanLaws
 pub mod RefusalLaws

@@ -6,15 +6,12 @@ use mathlib.Core.Option.{Option, none, some, Option·map}
 use Prim.Native.Nat.{ℕ, _+_}
 use lib.Dec.{eqb}
 use lib.ListN.{getD}
-use Rattle.model.specs.Below.{firstBelow}
 use Rattle.model.specs.Pattern.{firstStray}
-use Rattle.buffers.specs.Parts.{part, chunk}
-use Rattle.records.specs.Layout.{ruleValue, ruleMask, ruleSpare, ruleSize, traceSpare, traceSize}
+use Rattle.buffers.specs.Parts.{part}
+use Rattle.records.specs.Layout.{ruleValue, ruleMask, ruleSpare, traceSpare}
 use Rattle.records.specs.Layout.{writeZero, writeValue, writeMask, writeSpare, reportZero}
 use Rattle.checks.specs.declared.flaw.Flaw.{Flaw}
 use Rattle.checks.specs.declared.flaw.Flaw.the-variants.{Clean, Spare, Stray}
-use Rattle.checks.specs.declared.flaw.Checked.{Checked}
-use Rattle.checks.specs.declared.flaw.Checked.the-variants.{AllClean, Flawed}
 
 -- the first of these bytes of the record that is not zero
 abbrev pub firstNonzero : List ℕ → List ℕ → Option ℕ
@@ -64,24 +61,9 @@ writeFlaw w c = flawOf (firstNonzero (writeSpares w) c) (strayIn w writeValue (w
 unfoldable pub reportFlaw : List ℕ → Flaw
 reportFlaw c = flawOf (firstNonzero reportSpares c) none
 
--- ---- the first record with a flaw
+-- ---- whether it is a flaw
 
 abbrev pub isFlawed : Flaw → Bool
 isFlawed Clean = false
 isFlawed (Spare at) = true
 isFlawed (Stray at) = true
-
-abbrev pub checkedOf : (ℕ → Flaw) → Option ℕ → Checked
-checkedOf flaw none = AllClean
-checkedOf flaw (some i) = Flawed i (flaw i)
-
--- of n records, with the flaw of each
-unfoldable pub firstFlawed : (ℕ → Flaw) → ℕ → Checked
-firstFlawed flaw n = checkedOf flaw (firstBelow (λ i. isFlawed (flaw i)) n)
-
--- the flaw of the i-th rule of a policy, and of the i-th record of a trace
-abbrev pub ruleFlawAt : ℕ → List ℕ → ℕ → Flaw
-ruleFlawAt w bs i = ruleFlaw w (chunk (ruleSize w) bs i)
-
-abbrev pub traceFlawAt : ℕ → List ℕ → ℕ → Flaw
-traceFlawAt w bs i = traceFlaw w (chunk (traceSize w) bs i)

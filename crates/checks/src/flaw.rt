@@ -6,27 +6,13 @@ ghost use Prim.Native.Nat.{_+_, _≤_};
 ghost use lib.ListN.{length};
 ghost use Rattle.ternary.specs.Sizes.{keySize};
 ghost use Rattle.records.specs.Layout.{ruleSize, traceSize, writeSize, reportSize};
-ghost use Rattle.records.specs.Rules.{ruleCount};
-ghost use Rattle.records.specs.Traces.{packetCount};
-ghost use Rattle.checks.specs.Flaws.{isFlawed, flawOf, strayIn, ruleFlaw, traceFlaw, writeFlaw, reportFlaw};
-ghost use Rattle.checks.specs.Flaws.{firstFlawed, ruleFlawAt, traceFlawAt};
+ghost use Rattle.checks.specs.Flaws.{flawOf, strayIn, ruleFlaw, traceFlaw, writeFlaw, reportFlaw};
 
 // What is wrong with a record, with the lowest byte of it that is: a spare byte is told before a value bit.
 pub enum Flaw {
     Clean,
     Spare(usize),
     Stray(usize),
-}
-
-// Whether it is a flaw.
-fn is_flawed(flaw: Flaw) -> bool
-    ensures { λ r. ⌜ r ≡ isFlawed flaw ⌝ }
-{
-    match flaw {
-        Flaw::Clean => false,
-        Flaw::Spare(_) => true,
-        Flaw::Stray(_) => true,
-    }
 }
 
 // The value bits of a record under its wildcards, as a flaw: rows at `value` and at `mask`.
@@ -100,44 +86,4 @@ pub fn report_flaw(r: &[u8]) -> Flaw
         return Flaw::Spare(layout::REPORT_ZERO);
     }
     Flaw::Clean
-}
-
-// The first record with a flaw, and its flaw.
-pub enum Checked {
-    AllClean,
-    Flawed(usize, Flaw),
-}
-
-// The first flawed rule of a policy.
-pub fn first_flawed_rule(policy: &[u8]) -> Checked
-    ensures { λ x. ⌜ x ≡ firstFlawed (ruleFlawAt keySize (now (policy .entry))) (ruleCount keySize (now (policy .entry))) ⌝ }
-{
-    let n = policy.len() / layout::RULE_SIZE;
-    let mut i = 0;
-    while i < n {
-        let at = layout::RULE_SIZE * i;
-        let flaw = rule_flaw(&policy[at..at + layout::RULE_SIZE]);
-        if is_flawed(flaw) {
-            return Checked::Flawed(i, flaw);
-        }
-        i += 1;
-    }
-    Checked::AllClean
-}
-
-// The first flawed record of a trace.
-pub fn first_flawed_packet(trace: &[u8]) -> Checked
-    ensures { λ x. ⌜ x ≡ firstFlawed (traceFlawAt keySize (now (trace .entry))) (packetCount keySize (now (trace .entry))) ⌝ }
-{
-    let n = trace.len() / layout::TRACE_SIZE;
-    let mut i = 0;
-    while i < n {
-        let at = layout::TRACE_SIZE * i;
-        let flaw = trace_flaw(&trace[at..at + layout::TRACE_SIZE]);
-        if is_flawed(flaw) {
-            return Checked::Flawed(i, flaw);
-        }
-        i += 1;
-    }
-    Checked::AllClean
 }

@@ -16,12 +16,13 @@ use Rattle.buffers.proofs.PartLaws.{part-length}
 use Rattle.records.specs.Layout.{ruleValue, ruleMask, ruleSize, mostRules}
 use Rattle.records.specs.Rules.{decodeRule, ruleCount, rules}
 use Rattle.records.proofs.RuleLaws.{rule-count, rule-at}
-use Rattle.checks.specs.Flaws.{ruleFlawAt}
 use Rattle.checks.specs.declared.flaw.Flaw.the-variants.{Clean}
-use Rattle.checks.specs.declared.flaw.Checked.{Checked}
-use Rattle.checks.specs.declared.flaw.Checked.the-variants.{AllClean, Flawed}
-use Rattle.checks.proofs.CleanLaws.{rule-clean, all-clean}
+use Rattle.checks.proofs.CleanLaws.{rule-clean}
 use Rattle.checks.proofs.RefusalLaws.{need-none}
+use Rattle.flawed.specs.Flawed.{ruleFlawAt}
+use Rattle.flawed.specs.declared.Checked.{Checked}
+use Rattle.flawed.specs.declared.Checked.the-variants.{AllClean, Flawed}
+use Rattle.flawed.proofs.FlawedLaws.{all-clean}
 use Rattle.policy.specs.Refusals.{flawRefusal, policyRefusal, AcceptedBytes}
 
 flaw-none : (x : Checked) → flawRefusal x ≡ none → x ≡ AllClean

@@ -13,10 +13,11 @@ use Rattle.buffers.specs.Parts.{chunk}
 use Rattle.records.specs.Layout.{ruleSize, mostRules}
 use Rattle.records.specs.Rules.{ruleCount, rules}
 use Rattle.checks.specs.Refusals.{refusal, need}
-use Rattle.checks.specs.Flaws.{Zeros, ruleSpares, firstFlawed, ruleFlawAt}
+use Rattle.checks.specs.Flaws.{Zeros, ruleSpares}
 use Rattle.checks.specs.declared.refusal.Refusal.{Refusal}
-use Rattle.checks.specs.declared.flaw.Checked.{Checked}
-use Rattle.checks.specs.declared.flaw.Checked.the-variants.{AllClean, Flawed}
+use Rattle.flawed.specs.Flawed.{firstFlawed, ruleFlawAt}
+use Rattle.flawed.specs.declared.Checked.{Checked}
+use Rattle.flawed.specs.declared.Checked.the-variants.{AllClean, Flawed}
 
 -- 3, with the place of the first flawed record
 abbrev pub flawRefusal : Checked → Option Refusal

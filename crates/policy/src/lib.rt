@@ -31,9 +31,9 @@ pub fn check(policy: &[u8]) -> PolicyAnswer
             place: 0,
         });
     }
-    match checks::flaw::first_flawed_rule(policy) {
-        checks::flaw::Checked::AllClean => PolicyAnswer::Rules(policy.len() / layout::RULE_SIZE),
-        checks::flaw::Checked::Flawed(i, _) => PolicyAnswer::Refused(Refusal {
+    match flawed::first_flawed_rule(policy) {
+        flawed::Checked::AllClean => PolicyAnswer::Rules(policy.len() / layout::RULE_SIZE),
+        flawed::Checked::Flawed(i, _) => PolicyAnswer::Refused(Refusal {
             number: refusal::BAD_RECORD,
             place: i,
         }),

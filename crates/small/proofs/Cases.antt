@@ -14,7 +14,8 @@ use Rattle.ternary.specs.Sizes.{keySize}
 use Rattle.buffers.specs.Numbers.{be}
 use Rattle.buffers.specs.Parts.{splice, recordsIn, spelled}
 use Rattle.records.specs.Rules.{decodeRule, rules}
-use Rattle.checks.specs.Flaws.{ruleFlaw, firstFlawed}
+use Rattle.checks.specs.Flaws.{ruleFlaw}
+use Rattle.flawed.specs.Flawed.{firstFlawed}
 use Rattle.policy.specs.Refusals.{policyRefusal, keyRefusal}
 use Rattle.best.specs.Best.{bestFound}
 use Rattle.policy.specs.Answers.{bestRefusal}

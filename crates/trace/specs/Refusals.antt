@@ -11,8 +11,8 @@ use Rattle.ternary.specs.Sizes.{keySize}
 use Rattle.records.specs.Layout.{traceSize, outcomeSize, mostPackets}
 use Rattle.records.specs.Traces.{packetCount}
 use Rattle.checks.specs.Refusals.{orElse, need}
-use Rattle.checks.specs.Flaws.{firstFlawed, traceFlawAt}
 use Rattle.checks.specs.declared.refusal.Refusal.{Refusal}
+use Rattle.flawed.specs.Flawed.{firstFlawed, traceFlawAt}
 use Rattle.slots.specs.Refusals.{slotsRefusal}
 use Rattle.policy.specs.Refusals.{flawRefusal, policyRefusal}
 use Rattle.totals.specs.Sums.{totalsFit}

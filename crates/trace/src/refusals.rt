@@ -32,9 +32,9 @@ fn check_trace(trace: &[u8]) -> Parts
     if trace.len() / layout::TRACE_SIZE > layout::MOST_PACKETS {
         return refused(refusal::TOO_MANY);
     }
-    match checks::flaw::first_flawed_packet(trace) {
-        checks::flaw::Checked::AllClean => Parts::Fine,
-        checks::flaw::Checked::Flawed(i, _) => Parts::Refused(Refusal {
+    match flawed::first_flawed_packet(trace) {
+        flawed::Checked::AllClean => Parts::Fine,
+        flawed::Checked::Flawed(i, _) => Parts::Refused(Refusal {
             number: refusal::BAD_RECORD,
             place: i,
         }),

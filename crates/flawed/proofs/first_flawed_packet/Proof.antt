@@ -1,12 +1,12 @@
--- `checks::flaw::first_flawed_packet` meets its contract: no record below i has a flaw. Assumes nothing.
+-- `flawed::first_flawed_packet` meets its contract: no record below i has a flaw. Assumes nothing.
 use borrow.Author.Needs.{needs}
 use Prim.Native.Nat.{_≤_, _-_}
 use Rattle.ternary.specs.Sizes.{keySize}
 use Rattle.records.specs.Layout.{traceSize}
 use Rattle.checks.specs.Flaws.{traceFlaw}
-use Rattle.checks.proofs.FlawLaws.{Unflawed, unflawed-none, unflawed-more, flawed-here, flawed-nowhere}
-use Rattle.checks.proofs.flaw.first_flawed_packet.Statement.{statement}
-use Rattle.checks.proofs.flaw.first_flawed_packet.Tie as tie
+use Rattle.flawed.proofs.FlawedLaws.{Unflawed, unflawed-none, unflawed-more, flawed-here, flawed-nowhere}
+use Rattle.flawed.proofs.first_flawed_packet.Statement.{statement}
+use Rattle.flawed.proofs.first_flawed_packet.Tie as tie
 
 abbrev Inv-loop : tie.InvT-loop
 Inv-loop trace n i₀ i = (i ≤ n) × Unflawed (traceFlaw keySize) (traceSize keySize) trace i

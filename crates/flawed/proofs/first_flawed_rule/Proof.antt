@@ -1,12 +1,12 @@
--- `checks::flaw::first_flawed_rule` meets its contract: no record below i has a flaw. Assumes nothing.
+-- `flawed::first_flawed_rule` meets its contract: no record below i has a flaw. Assumes nothing.
 use borrow.Author.Needs.{needs}
 use Prim.Native.Nat.{_≤_, _-_}
 use Rattle.ternary.specs.Sizes.{keySize}
 use Rattle.records.specs.Layout.{ruleSize}
 use Rattle.checks.specs.Flaws.{ruleFlaw}
-use Rattle.checks.proofs.FlawLaws.{Unflawed, unflawed-none, unflawed-more, flawed-here, flawed-nowhere}
-use Rattle.checks.proofs.flaw.first_flawed_rule.Statement.{statement}
-use Rattle.checks.proofs.flaw.first_flawed_rule.Tie as tie
+use Rattle.flawed.proofs.FlawedLaws.{Unflawed, unflawed-none, unflawed-more, flawed-here, flawed-nowhere}
+use Rattle.flawed.proofs.first_flawed_rule.Statement.{statement}
+use Rattle.flawed.proofs.first_flawed_rule.Tie as tie
 
 abbrev Inv-loop : tie.InvT-loop
 Inv-loop policy n i₀ i = (i ≤ n) × Unflawed (ruleFlaw keySize) (ruleSize keySize) policy i

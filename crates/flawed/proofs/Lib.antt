@@ -1,0 +1,2 @@
+-- Laws of the first flawed record.
+pub mod FlawedLaws

@@ -1,0 +1,2 @@
+-- The first flawed record.
+pub mod Flawed
