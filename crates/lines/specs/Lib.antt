@@ -1,4 +1,2 @@
--- Numbers as text, and the lines that the program prints.
-pub mod Decimal
-pub mod Line
+-- The lines that the program prints.
 pub mod Printed

@@ -1,11 +1,9 @@
 -- The lines that the program prints. Assumes nothing.
-use mathlib.Core.Bool.{cond}
 use mathlib.Core.List.{List, [], _∷_, _++_}
 use Prim.Native.Nat.{ℕ}
-use lib.Dec.{eqb}
 use Rattle.model.specs.Records.{Outcome, Totals}
-use Rattle.model.specs.Trace.{nothing}
-use Rattle.lines.specs.Decimal.{decimal}
+use Rattle.line.specs.Decimal.{decimal}
+use Rattle.line.specs.Words.{orDash}
 
 abbrev pub space : ℕ
 space = 32
@@ -13,18 +11,11 @@ space = 32
 abbrev pub newline : ℕ
 newline = 10
 
-abbrev pub dash : ℕ
-dash = 45
-
 -- words with one space between, and a newline after
 abbrev pub lineOf : List (List ℕ) → List ℕ
 lineOf [] = newline ∷ []
 lineOf (word ∷ []) = word ++ (newline ∷ [])
 lineOf (word ∷ next ∷ words) = word ++ (space ∷ lineOf (next ∷ words))
-
--- a rule or slot number, or a dash where there is none
-unfoldable pub orDash : ℕ → List ℕ
-orDash n = cond (eqb n nothing) (dash ∷ []) (decimal n)
 
 -- outcome, action, rule, slot, evicted rule
 unfoldable pub outcomeLine : Outcome → List ℕ

@@ -1,6 +1,4 @@
 // The lines that the program prints, as text by value. Each is built from its end.
-pub mod line;
-
 use checks::refusal::Refusal;
 use line::Line;
 use line::with_number;
@@ -10,7 +8,7 @@ ghost use mathlib.Core.Path.{_≡_};
 ghost use lib.ListN.{length};
 ghost use Rattle.records.specs.Layout.{outcomeSize};
 ghost use Rattle.outcomes.specs.Outcomes.{decodeOutcome};
-ghost use Rattle.lines.specs.Line.{Says};
+ghost use Rattle.line.specs.Line.{Says};
 ghost use Rattle.lines.specs.Printed.{outcomeLine, totalsLine, refusalLine};
 
 const SPACE: u8 = 32;

@@ -7,8 +7,8 @@ use lib.ListN.{length, take, drop, length-append}
 use lib.Seq.{length-take-le}
 use Rattle.buffers.specs.Parts.{splice}
 use Rattle.buffers.proofs.PartLaws.{splice-next}
-use Rattle.lines.specs.Line.{lineSize, textOf, Says}
-use Rattle.lines.specs.declared.line.Line.{Line}
+use Rattle.line.specs.Line.{lineSize, textOf, Says}
+use Rattle.line.specs.declared.Line.{Line}
 use Rattle.listing.specs.Listing.{TextPut}
 use Rattle.listing.proofs.TextLaws.{line-short}
 

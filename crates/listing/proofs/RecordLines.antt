@@ -10,9 +10,9 @@ use Rattle.buffers.proofs.PartLaws.{part-length}
 use Rattle.buffers.proofs.RecordLaws.{records-count, records-at}
 use Rattle.records.specs.Layout.{outcomeSize}
 use Rattle.outcomes.specs.Outcomes.{decodeOutcome}
-use Rattle.lines.specs.Line.{lineSize, textOf, Says}
+use Rattle.line.specs.Line.{lineSize, textOf, Says}
 use Rattle.lines.specs.Printed.{outcomeLine}
-use Rattle.lines.specs.declared.line.Line.{Line}
+use Rattle.line.specs.declared.Line.{Line}
 use Rattle.listing.specs.Listing.{linesIn, TextPut}
 use Rattle.listing.proofs.TextLaws.{Spelt, spelt-more, spelt-all}
 

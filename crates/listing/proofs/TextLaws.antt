@@ -9,8 +9,8 @@ use lib.Seq.{take-suc, take-all}
 use Rattle.buffers.specs.Parts.{splice, spelled}
 use Rattle.buffers.proofs.PartLaws.{splice-next}
 use Rattle.buffers.proofs.RowLaws.{spelled-more}
-use Rattle.lines.specs.Line.{lineSize, textOf, Says}
-use Rattle.lines.specs.declared.line.Line.{Line}
+use Rattle.line.specs.Line.{lineSize, textOf, Says}
+use Rattle.line.specs.declared.Line.{Line}
 
 -- a line is no longer than its room
 pub line-short : {text : List ℕ} {line : Line} → Says text line → length text ≤ lineSize

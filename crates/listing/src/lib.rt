@@ -1,13 +1,13 @@
 // Lines in a lent output, one after another.
-use lines::line::LINE_SIZE;
-use lines::line::Line;
+use line::LINE_SIZE;
+use line::Line;
 use records::layout;
 ghost use mathlib.Core.Path.{_≡_};
 ghost use Prim.Native.Nat.{_+_, _*_, _≤_};
 ghost use lib.ListN.{length};
 ghost use Rattle.buffers.specs.Parts.{splice};
 ghost use Rattle.records.specs.Layout.{outcomeSize, mostPackets};
-ghost use Rattle.lines.specs.Line.{lineSize, textOf};
+ghost use Rattle.line.specs.Line.{lineSize, textOf};
 ghost use Rattle.listing.specs.Listing.{linesIn, TextPut};
 
 // Writes a line from `at` on, and gives where it ends; every other byte stays.

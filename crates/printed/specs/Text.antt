@@ -19,7 +19,7 @@ use Rattle.trace.specs.Runs.{outcomesOf}
 use Rattle.trace.specs.declared.RunAnswer.{RunAnswer}
 use Rattle.trace.specs.declared.RunAnswer.the-variants.{Refused, Packets}
 use Rattle.trace.specs.declared.Ran.{Ran}
-use Rattle.lines.specs.Line.{lineSize}
+use Rattle.line.specs.Line.{lineSize}
 use Rattle.lines.specs.Printed.{outcomeLine, totalsLine, refusalLine}
 use Rattle.listing.specs.Listing.{linesIn}
 use Rattle.replay.specs.Slots.{slotsIn}

@@ -1,7 +1,7 @@
 // What the program prints, written into a lent output, from the bytes of its three files.
 use checks::refusal::Refusal;
-use lines::line::LINE_SIZE;
-use lines::line::Line;
+use line::LINE_SIZE;
+use line::Line;
 use records::layout;
 use replay::FileAnswer;
 use totals::Totals;
@@ -12,7 +12,7 @@ ghost use Prim.Native.Nat.{_*_, _≤_};
 ghost use lib.ListN.{length};
 ghost use Rattle.records.specs.Layout.{outcomeSize, mostPackets, mostSlots};
 ghost use Rattle.totals.specs.Sums.{asTotals};
-ghost use Rattle.lines.specs.Line.{Says};
+ghost use Rattle.line.specs.Line.{Says};
 ghost use Rattle.lines.specs.Printed.{totalsLine};
 ghost use Rattle.listing.specs.Listing.{TextPut};
 ghost use Rattle.replay.specs.Files.{mostTraceBytes};

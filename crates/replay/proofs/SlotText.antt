@@ -14,9 +14,9 @@ use Rattle.model.proofs.Cases.{by-cases, clash, cond-elim, and-left, and-right,
 use Rattle.model.proofs.BelowLaws.{all-at}
 use Rattle.model.proofs.OrderLaws.{first-at, foremost-none}
 use Rattle.records.specs.Layout.{mostSlots}
-use Rattle.lines.specs.Decimal.{digit, decimalIn, decimal, numberFrom, numberIn}
+use Rattle.line.specs.Decimal.{digit, decimalIn, decimal, numberFrom, numberIn}
 use Rattle.lines.specs.Printed.{newline, lineOf}
-use Rattle.lines.proofs.DecimalLaws.{decimal-one, decimal-number, number-digit, was-digit}
+use Rattle.line.proofs.DecimalLaws.{decimal-one, decimal-number, number-digit, was-digit}
 use Rattle.replay.specs.Slots.{same, saysSlots, slotsIn}
 
 -- ---- the same bytes

@@ -6,7 +6,7 @@ use Prim.Native.Nat.{ℕ, suc}
 use lib.Dec.{leb, eqb}
 use Rattle.model.specs.Below.{firstBelow}
 use Rattle.records.specs.Layout.{mostSlots}
-use Rattle.lines.specs.Decimal.{decimal}
+use Rattle.line.specs.Decimal.{decimal}
 use Rattle.lines.specs.Printed.{lineOf}
 
 -- the same bytes

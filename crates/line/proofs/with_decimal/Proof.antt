@@ -1,13 +1,13 @@
--- `lines::line::with_decimal` meets its contract: what is left of the number's digits stands before those that are stored. Assumes nothing.
+-- `line::with_decimal` meets its contract: what is left of the number's digits stands before those that are stored. Assumes nothing.
 use borrow.Author.Needs.{needs}
 use Prim.Native.Nat.{_≤_}
 use native.Mathlib.Omega.{arith}
 use lib.ListN.{drop}
-use Rattle.lines.specs.Decimal.{mostDigits}
-use Rattle.lines.specs.Line.{lineSize}
-use Rattle.lines.proofs.LineLaws.{Spelling, spelling-none, spelling-more, put-decimal}
-use Rattle.lines.proofs.line.with_decimal.Statement.{statement}
-use Rattle.lines.proofs.line.with_decimal.Tie as tie
+use Rattle.line.specs.Decimal.{mostDigits}
+use Rattle.line.specs.Line.{lineSize}
+use Rattle.line.proofs.LineLaws.{Spelling, spelling-none, spelling-more, put-decimal}
+use Rattle.line.proofs.with_decimal.Statement.{statement}
+use Rattle.line.proofs.with_decimal.Tie as tie
 
 abbrev Inv-loop : tie.InvT-loop
 Inv-loop n bytes₀ at₀ rest₀ bytes at rest =

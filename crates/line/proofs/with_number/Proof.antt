@@ -1,8 +1,8 @@
--- `lines::line::with_number` meets its contract: a byte is put before the line, then the number. Assumes nothing.
+-- `line::with_number` meets its contract: a byte is put before the line, then the number. Assumes nothing.
 use borrow.Author.Needs.{needs}
-use Rattle.lines.proofs.LineLaws.{put-both}
-use Rattle.lines.proofs.line.with_number.Statement.{statement}
-use Rattle.lines.proofs.line.with_number.Tie as tie
+use Rattle.line.proofs.LineLaws.{put-both}
+use Rattle.line.proofs.with_number.Statement.{statement}
+use Rattle.line.proofs.with_number.Tie as tie
 
 returns : tie.Need-returns
 returns c = put-both _ _ (c .before .with-byte .ensures .0) (c .with-decimal .ensures .0) (search needs)

@@ -1,8 +1,8 @@
--- `lines::line::with_place` meets its contract: a dash stands for no rule and for no slot. Assumes nothing.
+-- `line::with_place` meets its contract: a dash stands for no rule and for no slot. Assumes nothing.
 use borrow.Author.Needs.{needs}
-use Rattle.lines.proofs.LineLaws.{put-both, no-place, a-place}
-use Rattle.lines.proofs.line.with_place.Statement.{statement}
-use Rattle.lines.proofs.line.with_place.Tie as tie
+use Rattle.line.proofs.LineLaws.{put-both, no-place, a-place}
+use Rattle.line.proofs.with_place.Statement.{statement}
+use Rattle.line.proofs.with_place.Tie as tie
 
 returns : tie.Need-returns
 returns c =

@@ -3,8 +3,8 @@ use mathlib.Core.Path.{_≡_}
 use mathlib.Core.List.{List, _∷_, _++_}
 use Prim.Native.Nat.{ℕ, _+_, _*_, _≤_}
 use lib.ListN.{length, drop}
-use Rattle.lines.specs.Decimal.{mostDigits}
-use Rattle.lines.specs.declared.line.Line.{Line}
+use Rattle.line.specs.Decimal.{mostDigits}
+use Rattle.line.specs.declared.Line.{Line}
 
 -- a number or a dash, and the space or newline after it, are at most so long
 abbrev pub wordSize : ℕ

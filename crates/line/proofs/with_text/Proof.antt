@@ -1,13 +1,13 @@
--- `lines::line::with_text` meets its contract: the text from the i-th byte on stands before the line. Assumes nothing.
+-- `line::with_text` meets its contract: the text from the i-th byte on stands before the line. Assumes nothing.
 use borrow.Author.Needs.{needs}
 use mathlib.Core.Path.{_≡_}
 use mathlib.Core.List.{_++_}
 use Prim.Native.Nat.{_+_, _-_, _≤_}
 use lib.ListN.{length, drop}
-use Rattle.lines.specs.Line.{textOf, Says}
-use Rattle.lines.proofs.LineLaws.{text-none, text-more}
-use Rattle.lines.proofs.line.with_text.Statement.{statement}
-use Rattle.lines.proofs.line.with_text.Tie as tie
+use Rattle.line.specs.Line.{textOf, Says}
+use Rattle.line.proofs.LineLaws.{text-none, text-more}
+use Rattle.line.proofs.with_text.Statement.{statement}
+use Rattle.line.proofs.with_text.Tie as tie
 
 abbrev Inv-loop : tie.InvT-loop
 Inv-loop text longer₀ i₀ longer i =

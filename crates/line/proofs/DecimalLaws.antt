@@ -9,7 +9,7 @@ use borrow.Author.Tests.{ltb-true, ltb-false, leb-true, leb-false, lt-ltb, le-lt
 use lib.Dec.{leb, ltb}
 use lib.ListN.{length}
 use Rattle.model.proofs.Cases.{by-cases}
-use Rattle.lines.specs.Decimal.{digit, decimalIn, numberFrom}
+use Rattle.line.specs.Decimal.{digit, decimalIn, numberFrom}
 
 -- a number of one digit
 pub decimal-one : (k n : ℕ) → n < 10 → decimalIn (suc k) n ≡ digit (n % 10) ∷ []

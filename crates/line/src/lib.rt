@@ -4,9 +4,9 @@ ghost use mathlib.Core.Path.{_≡_};
 ghost use mathlib.Core.List.{[], _∷_, _++_};
 ghost use Prim.Native.Nat.{_+_, _%_, _≤_};
 ghost use lib.ListN.{length};
-ghost use Rattle.lines.specs.Decimal.{mostDigits, digit, decimal};
-ghost use Rattle.lines.specs.Line.{wordSize, lineSize, textOf, Says, WordPut};
-ghost use Rattle.lines.specs.Printed.{orDash};
+ghost use Rattle.line.specs.Decimal.{mostDigits, digit, decimal};
+ghost use Rattle.line.specs.Line.{wordSize, lineSize, textOf, Says, WordPut};
+ghost use Rattle.line.specs.Words.{orDash};
 
 // No number of 64 bits has more decimal digits.
 const MOST_DIGITS: usize = 20;
@@ -39,7 +39,7 @@ fn with_byte(line: Line, x: u8) -> Line
 }
 
 // The line with a text put before it.
-pub(crate) fn with_text(line: Line, text: &[u8]) -> Line
+pub fn with_text(line: Line, text: &[u8]) -> Line
     requires { ⌜ (length (now text) ≤ line .at) × (line .at ≤ lineSize) ⌝ }
     ensures { λ r. ⌜ Says (now (text .entry) ++ textOf line) r ⌝ }
 {
@@ -71,7 +71,7 @@ fn with_decimal(line: Line, n: u64) -> Line
 }
 
 // The line with a number and the byte after it put before it.
-pub(crate) fn with_number(line: Line, n: u64, after: u8) -> Line
+pub fn with_number(line: Line, n: u64, after: u8) -> Line
     requires { ⌜ (wordSize ≤ line .at) × (line .at ≤ lineSize) ⌝ }
     ensures { λ r. ⌜ WordPut (decimal n) after line r ⌝ }
 {
@@ -79,7 +79,7 @@ pub(crate) fn with_number(line: Line, n: u64, after: u8) -> Line
 }
 
 // The same for a rule or a slot; a dash where there is none.
-pub(crate) fn with_place(line: Line, n: u16, after: u8) -> Line
+pub fn with_place(line: Line, n: u16, after: u8) -> Line
     requires { ⌜ (wordSize ≤ line .at) × (line .at ≤ lineSize) ⌝ }
     ensures { λ r. ⌜ WordPut (orDash n) after line r ⌝ }
 {
@@ -90,7 +90,7 @@ pub(crate) fn with_place(line: Line, n: u16, after: u8) -> Line
 }
 
 // The line that says nothing.
-pub(crate) fn empty() -> Line
+pub fn empty() -> Line
     ensures { λ r. ⌜ Says [] r × (r .at ≡ lineSize) ⌝ }
 {
     Line {

@@ -7,11 +7,11 @@ use borrow.Author.Tests.{eq-eqb, ne-eqb}
 use lib.ListN.{length, drop, getD, set, length-set}
 use lib.Seq.{drop-cons, drop-length, getD-set-same, drop-set-lt}
 use Rattle.model.specs.Trace.{nothing}
-use Rattle.lines.specs.Decimal.{mostDigits, digit, decimalIn, decimal}
-use Rattle.lines.specs.Line.{wordSize, lineSize, textOf, Says, WordPut}
-use Rattle.lines.specs.Printed.{dash, orDash}
-use Rattle.lines.specs.declared.line.Line.{Line}
-use Rattle.lines.proofs.DecimalLaws.{decimal-one, decimal-more, tenth, two-digits}
+use Rattle.line.specs.Decimal.{mostDigits, digit, decimalIn, decimal}
+use Rattle.line.specs.Line.{wordSize, lineSize, textOf, Says, WordPut}
+use Rattle.line.specs.Words.{dash, orDash}
+use Rattle.line.specs.declared.Line.{Line}
+use Rattle.line.proofs.DecimalLaws.{decimal-one, decimal-more, tenth, two-digits}
 
 -- a byte stored just before a part begins it
 pub drop-stored : (bytes : List ℕ) (at x : ℕ) → 1 ≤ at → at ≤ length bytes → drop (at - 1) (set bytes (at - 1) x) ≡ x ∷ drop at bytes

@@ -1,8 +1,8 @@
--- `lines::line::with_byte` meets its contract: one byte is stored before the text. Assumes nothing.
+-- `line::with_byte` meets its contract: one byte is stored before the text. Assumes nothing.
 use borrow.Author.Needs.{needs}
-use Rattle.lines.proofs.LineLaws.{put-byte}
-use Rattle.lines.proofs.line.with_byte.Statement.{statement}
-use Rattle.lines.proofs.line.with_byte.Tie as tie
+use Rattle.line.proofs.LineLaws.{put-byte}
+use Rattle.line.proofs.with_byte.Statement.{statement}
+use Rattle.line.proofs.with_byte.Tie as tie
 
 returns : tie.Need-returns
 returns c = (put-byte _ _ (search needs) (search needs) (search needs), search needs)

@@ -1,0 +1,4 @@
+-- Numbers as text, and a line that is built from its end.
+pub mod Decimal
+pub mod Words
+pub mod Line
