@@ -1,5 +1,3 @@
--- Laws of what separates, of lists at the front of an array, of columns, and of the rounds.
-pub mod SeparateLaws
-pub mod StandingLaws
-pub mod ColumnLaws
+-- Laws of the scan of positions, and of the rounds.
+pub mod AtHand
 pub mod RoundsLaws

@@ -1,4 +1,3 @@
 -- What the contracts on the rounds cite, above the model.
 pub mod Ready
 pub mod Structs
-pub mod Columns

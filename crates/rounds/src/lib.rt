@@ -1,12 +1,12 @@
 // The rounds of isolating: each fixes the position that separates the most of the dependents that stand.
-use crate::separate::column_of;
-use crate::separate::left;
-use crate::separate::marked;
 use cover::dependents::dependents_of;
 use cover::numbers::Numbers;
 use records::layout;
 use records::layout::KEY_SIZE;
 use records::row::row_at;
+use separation::column_of;
+use separation::left;
+use separation::marked;
 use ternary::Pattern;
 ghost use mathlib.Core.Path.{_≡_};
 ghost use mathlib.Core.Option.{some};
@@ -18,8 +18,6 @@ ghost use Rattle.records.specs.Rules.{ruleCount, rules};
 ghost use Rattle.cover.specs.Numbers.{Lists};
 ghost use Rattle.rounds.specs.Ready.{Ready};
 ghost use Rattle.rounds.specs.Structs.{asIsolated, withCounts, PatternOf};
-
-mod separate;
 
 // A rule isolated for a key: the pattern, the number of fixed bits, and the wildcard bits left.
 pub struct Isolated {

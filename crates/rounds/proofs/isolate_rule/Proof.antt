@@ -12,8 +12,8 @@ use Rattle.records.specs.Layout.{mostRules}
 use Rattle.records.specs.Rules.{ruleCount, rules}
 use Rattle.records.proofs.RuleLaws.{rule-count}
 use Rattle.cover.specs.Numbers.{Under}
-use Rattle.rounds.specs.Columns.{Marks}
-use Rattle.rounds.proofs.ColumnLaws.{AtHand, at-first, at-next, weight-is}
+use Rattle.separation.specs.Columns.{Marks}
+use Rattle.rounds.proofs.AtHand.{AtHand, at-first, at-next, weight-is}
 use Rattle.rounds.proofs.RoundsLaws.{Scan, scan-none, scan-taken, scan-kept, scan-chosen}
 use Rattle.rounds.proofs.RoundsLaws.{Going, going-start, going-under, going-room, going-stop, going-less, going-next}
 use Rattle.rounds.proofs.isolate_rule.Statement.{statement}

@@ -1,10 +1,10 @@
--- `rounds::separate::separating` meets its contract: the expression works on each bit apart. Assumes nothing.
+-- `separation::separating` meets its contract: the expression works on each bit apart. Assumes nothing.
 use borrow.Author.Needs.{needs}
 use Rattle.ternary.specs.Sizes.{keySize}
 use Rattle.ternary.proofs.ByteLaws.{bytes-of}
-use Rattle.rounds.proofs.SeparateLaws.{separating-bits}
-use Rattle.rounds.proofs.separate.separating.Statement.{statement}
-use Rattle.rounds.proofs.separate.separating.Tie as tie
+use Rattle.separation.proofs.SeparateLaws.{separating-bits}
+use Rattle.separation.proofs.separating.Statement.{statement}
+use Rattle.separation.proofs.separating.Tie as tie
 
 returns : tie.Need-returns
 returns c =

@@ -1,4 +1,4 @@
--- `rounds::separate::column_of` meets its contract: the bytes have the bits of what is separated of the first i items. Assumes nothing.
+-- `separation::column_of` meets its contract: the bytes have the bits of what is separated of the first i items. Assumes nothing.
 use borrow.Author.Needs.{needs}
 use mathlib.Core.Path.{_≡_}
 use mathlib.Core.Logic.{⊎-elim}
@@ -9,11 +9,11 @@ use Rattle.model.specs.Isolate.{separates}
 use Rattle.ternary.specs.Sizes.{keySize}
 use Rattle.records.specs.Layout.{mostRules}
 use Rattle.records.specs.Rules.{rules}
-use Rattle.rounds.specs.Columns.{Marks}
-use Rattle.rounds.proofs.SeparateLaws.{separates-here}
-use Rattle.rounds.proofs.ColumnLaws.{marks-none, marks-more, marks-same}
-use Rattle.rounds.proofs.separate.column_of.Statement.{statement}
-use Rattle.rounds.proofs.separate.column_of.Tie as tie
+use Rattle.separation.specs.Columns.{Marks}
+use Rattle.separation.proofs.SeparateLaws.{separates-here}
+use Rattle.separation.proofs.ColumnLaws.{marks-none, marks-more, marks-same}
+use Rattle.separation.proofs.column_of.Statement.{statement}
+use Rattle.separation.proofs.column_of.Tie as tie
 
 abbrev Inv-loop : tie.InvT-loop
 Inv-loop policy number b standing key items bytes₀ count₀ i₀ bytes count i =

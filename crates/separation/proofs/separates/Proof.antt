@@ -1,9 +1,9 @@
--- `rounds::separate::separates` meets its contract: the byte's bit at the position is taken. Assumes nothing.
+-- `separation::separates` meets its contract: the byte's bit at the position is taken. Assumes nothing.
 use borrow.Author.Needs.{needs}
 use mathlib.Core.Path.{refl, _∙_}
-use Rattle.rounds.proofs.SeparateLaws.{separates-at, bit-taken}
-use Rattle.rounds.proofs.separate.separates.Statement.{statement}
-use Rattle.rounds.proofs.separate.separates.Tie as tie
+use Rattle.separation.proofs.SeparateLaws.{separates-at, bit-taken}
+use Rattle.separation.proofs.separates.Statement.{statement}
+use Rattle.separation.proofs.separates.Tie as tie
 
 returns : tie.Need-returns
 returns c = bit-taken _ _ ∙ separates-at _ _ _ _ _ _ (c .separating .ensures) (c .before .before .args .p) refl

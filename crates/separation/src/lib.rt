@@ -10,7 +10,7 @@ ghost use Rattle.model.specs.Isolate.{separates as separatesAt};
 ghost use Rattle.ternary.specs.Sizes.{keySize, positions};
 ghost use Rattle.records.specs.Rules.{ruleCount, rules};
 ghost use Rattle.cover.specs.Numbers.{Lists, Under};
-ghost use Rattle.rounds.specs.Columns.{bitSet, Separating, Marks};
+ghost use Rattle.separation.specs.Columns.{bitSet, Separating, Marks};
 
 // The bits of byte b that are wildcards of the rule of that number, and exact in rule d and not as in the key's byte.
 fn separating(policy: &[u8], key: u8, number: usize, b: usize, d: usize) -> u8

@@ -2,7 +2,7 @@
 use mathlib.Core.Path.{_≡_, refl, sym, ap, ap₂, _∙_}
 use mathlib.Core.Bool.{Bool, false, Bool·beq, cond}
 use mathlib.Core.List.{List, []}
-use Prim.Native.Nat.{ℕ, _+_, _*_, _/_, _%_, _<_}
+use Prim.Native.Nat.{ℕ, _+_, _*_, _<_}
 use native.Mathlib.Omega.{arith}
 use native.Mathlib.Numerals.{add-one}
 use lib.ListN.{length, take, getD, set, length-set}
@@ -12,8 +12,8 @@ use Rattle.model.specs.Bits.{digit}
 use Rattle.model.proofs.BelowLaws.{all-at}
 use Rattle.ternary.proofs.ByteLaws.{beq-same}
 use Rattle.records.specs.Layout.{mostRules}
-use Rattle.rounds.specs.Columns.{bitSet, Marks}
-use Rattle.rounds.proofs.StandingLaws.{length-last}
+use Rattle.separation.specs.Columns.{bitSet, Marks}
+use Rattle.separation.proofs.StandingLaws.{length-last}
 
 -- ---- the column, one of the standing after the other
 
@@ -51,21 +51,3 @@ module _ (sep : ℕ → ℕ → Bool) (b : ℕ) where
       few = is .few;
       each = λ q h. let e : bitSet q x ≡ false = rw z (none-set q h) in omega (arith, rw e at (next q h));
     }
-
--- ---- the column that a scan of positions has at hand, which inside a byte of the key is that byte's
-pub record AtHand (sep : ℕ → ℕ → Bool) (p : ℕ) (xs bytes : List ℕ) (count : ℕ) : Type 0 where
-  pub inside : (p % 8 ≡ 0 → ⊥) → Marks sep (p / 8) xs bytes count
-
-module _ (sep : ℕ → ℕ → Bool) (xs bytes : List ℕ) (count : ℕ) where
-  pub at-first : AtHand sep 0 xs bytes count
-  at-first = record { inside = λ h. absurd (h refl) }
-
-  module _ (p : ℕ) (is : Marks sep (p / 8) xs bytes count) where
-    pub at-next : AtHand sep (p + 1) xs bytes count
-    at-next = record { inside = λ h. let e : (p + 1) / 8 ≡ p / 8 = omega arith in rw e is }
-
-    -- as many have the position's bit as it separates
-    pub weight-is : (n : ℕ) → n ≡ length (keep (bitSet (p % 8)) (take count bytes)) → n ≡ length (keep (sep p) xs)
-    weight-is n e =
-        let here : p / 8 * 8 + p % 8 ≡ p = omega arith in
-        e ∙ is .each (p % 8) (omega arith) ∙ ap (λ (m : ℕ). length (keep (sep m) xs)) here

@@ -1,4 +1,4 @@
--- `rounds::separate::left` meets its contract: the items are those of the first i that are not separated. Assumes nothing.
+-- `separation::left` meets its contract: the items are those of the first i that are not separated. Assumes nothing.
 use borrow.Author.Needs.{needs}
 use mathlib.Core.Path.{_≡_}
 use mathlib.Core.Logic.{⊎-elim}
@@ -12,9 +12,9 @@ use Rattle.ternary.specs.Sizes.{keySize}
 use Rattle.records.specs.Layout.{mostRules}
 use Rattle.records.specs.Rules.{rules}
 use Rattle.cover.specs.Numbers.{Lists}
-use Rattle.rounds.proofs.StandingLaws.{list-none, list-left, list-gone}
-use Rattle.rounds.proofs.separate.left.Statement.{statement}
-use Rattle.rounds.proofs.separate.left.Tie as tie
+use Rattle.separation.proofs.StandingLaws.{list-none, list-left, list-gone}
+use Rattle.separation.proofs.left.Statement.{statement}
+use Rattle.separation.proofs.left.Tie as tie
 
 abbrev Inv-loop : tie.InvT-loop
 Inv-loop policy key number p standing old items₀ count₀ i₀ items count i =

@@ -1,4 +1,4 @@
--- `rounds::separate::marked` meets its contract: n of the first i bytes have the bit. Assumes nothing.
+-- `separation::marked` meets its contract: n of the first i bytes have the bit. Assumes nothing.
 use borrow.Author.Needs.{needs}
 use mathlib.Core.Path.{_≡_}
 use mathlib.Core.Logic.{⊎-elim}
@@ -7,11 +7,11 @@ use native.Mathlib.Omega.{arith}
 use lib.ListN.{length, take}
 use borrow.Author.Tests.{eq-eqb, ne-eqb}
 use Rattle.model.specs.Below.{keep}
-use Rattle.rounds.specs.Columns.{bitSet}
-use Rattle.rounds.proofs.StandingLaws.{count-kept, count-passed}
-use Rattle.rounds.proofs.SeparateLaws.{bit-taken}
-use Rattle.rounds.proofs.separate.marked.Statement.{statement}
-use Rattle.rounds.proofs.separate.marked.Tie as tie
+use Rattle.separation.specs.Columns.{bitSet}
+use Rattle.separation.proofs.StandingLaws.{count-kept, count-passed}
+use Rattle.separation.proofs.SeparateLaws.{bit-taken}
+use Rattle.separation.proofs.marked.Statement.{statement}
+use Rattle.separation.proofs.marked.Tie as tie
 
 abbrev Inv-loop : tie.InvT-loop
 Inv-loop bytes count q n₀ i₀ n i = (i ≤ count) × (count ≤ length bytes) × (n ≤ i) × (n ≡ length (keep (bitSet q) (take i bytes)))

@@ -19,7 +19,7 @@ use Rattle.buffers.specs.Parts.{part}
 use Rattle.records.specs.Layout.{ruleValue, ruleMask, ruleSize}
 use Rattle.records.specs.Rules.{ruleCount, rules}
 use Rattle.records.proofs.RuleLaws.{value-in-place, mask-in-place}
-use Rattle.rounds.specs.Columns.{bitSet, Separating}
+use Rattle.separation.specs.Columns.{bitSet, Separating}
 
 -- ---- the code's expression, at each bit
 

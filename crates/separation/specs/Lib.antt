@@ -1,0 +1,2 @@
+-- What the contracts on separating cite, above the model.
+pub mod Columns
