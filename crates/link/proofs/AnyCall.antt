@@ -35,7 +35,7 @@ use Rattle.verdict.specs.Decisions.{missIn}
 use Rattle.miss.specs.Answers.{partsRefusal, missRefused, missBytes}
 use Rattle.totals.specs.declared.Totals.{Totals as TotalsStruct}
 use Rattle.packet.specs.Packets.{endsIn}
-use Rattle.trace.specs.Refusals.{runRefusal}
+use Rattle.run_refusals.specs.Refusals.{runRefusal}
 use Rattle.trace.specs.Runs.{outcomesOf, endsOf, runOf, RunIs}
 use Rattle.trace.specs.declared.RunAnswer.the-variants.{Refused, Packets}
 use Rattle.trace.specs.declared.Ran.{Ran}

@@ -18,7 +18,7 @@ use Rattle.slots.proofs.SlotBytes.{ByteSlots, spelled-long, spelled-bytes}
 use Rattle.policy.specs.Refusals.{AcceptedBytes}
 use Rattle.verdict.specs.Decisions.{deciding}
 use Rattle.packet.specs.Packets.{endsIn}
-use Rattle.trace.specs.Refusals.{runRefusal}
+use Rattle.run_refusals.specs.Refusals.{runRefusal}
 use Rattle.trace.specs.Runs.{endsOf, Shown, runOf, RunIs}
 use Rattle.trace.specs.declared.Ran.{Ran}
 use Rattle.link.specs.Calls.{State, after}

@@ -10,7 +10,7 @@ use Rattle.received.specs.Writes.{writeCallRefusal}
 use Rattle.keeper.specs.Reports.{reportRefused}
 use Rattle.verdict.specs.Decisions.{deciding}
 use Rattle.miss.specs.Answers.{missRefused}
-use Rattle.trace.specs.Refusals.{runRefusal}
+use Rattle.run_refusals.specs.Refusals.{runRefusal}
 use Rattle.link.specs.Calls.{State, Call, lookup, write, miss, report, openSlots, run, Promised, Linked, after}
 use Rattle.link.proofs.Meaning.{Formed, stayed}
 use Rattle.link.proofs.TableSteps.{looked, wrote}

@@ -25,7 +25,7 @@ use Rattle.outcomes.specs.Outcomes.{givesWrite}
 use Rattle.miss.specs.Answers.{missRefused, Missed}
 use Rattle.miss.specs.declared.MissAnswer.{MissAnswer}
 use Rattle.miss.specs.declared.MissAnswer.the-variants.{Refused as MissRefused, Outcome}
-use Rattle.trace.specs.Refusals.{runRefusal}
+use Rattle.run_refusals.specs.Refusals.{runRefusal}
 use Rattle.trace.specs.Runs.{RunIs}
 use Rattle.trace.specs.declared.Ran.{Ran}
 

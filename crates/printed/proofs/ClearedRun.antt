@@ -21,7 +21,7 @@ use Rattle.slots.specs.Refusals.{slotsRefusal, WholeSlots}
 use Rattle.slots.proofs.FitLaws.{slots-accepted}
 use Rattle.totals.specs.Sums.{asTotals, totalsFit}
 use Rattle.policy.specs.Refusals.{policyRefusal}
-use Rattle.trace.specs.Refusals.{traceRefusal, endsRefusal, runRefusal}
+use Rattle.run_refusals.specs.Refusals.{traceRefusal, endsRefusal, runRefusal}
 use Rattle.trace.specs.Runs.{RunIs}
 use Rattle.trace.specs.declared.RunAnswer.{RunAnswer}
 use Rattle.trace.specs.declared.RunAnswer.the-variants.{Refused, Packets}

@@ -14,7 +14,7 @@ use Rattle.checks.specs.declared.refusal.Refusal.{Refusal}
 use Rattle.outcomes.specs.Outcomes.{decodeOutcome, encodeOutcome}
 use Rattle.totals.specs.Sums.{asTotals}
 use Rattle.policy.specs.Refusals.{policyRefusal}
-use Rattle.trace.specs.Refusals.{traceRefusal}
+use Rattle.run_refusals.specs.Refusals.{traceRefusal}
 use Rattle.trace.specs.Runs.{outcomesOf}
 use Rattle.trace.specs.declared.RunAnswer.{RunAnswer}
 use Rattle.trace.specs.declared.RunAnswer.the-variants.{Refused, Packets}

@@ -23,7 +23,7 @@ use Rattle.outcomes.specs.Outcomes.{decodeOutcome, encodeOutcome}
 use Rattle.outcomes.proofs.OutcomeLaws.{length-outcome}
 use Rattle.verdict.specs.Decisions.{deciding}
 use Rattle.packet.specs.Packets.{endsIn}
-use Rattle.trace.specs.Refusals.{runRefusal}
+use Rattle.run_refusals.specs.Refusals.{runRefusal}
 use Rattle.trace.specs.Runs.{outcomesOf, endsOf, Shown, shownOf, runOf, endsLeft}
 use Rattle.trace.specs.declared.RunAnswer.{RunAnswer}
 use Rattle.trace.specs.declared.RunAnswer.the-variants.{Refused, Packets}

@@ -29,21 +29,12 @@ use Rattle.totals.specs.Sums.{asTotals, mostTotal, totalsFit, AtMost}
 use Rattle.totals.proofs.SumLaws.{fit-most}
 use Rattle.packet.proofs.SentLaws.{as-whole}
 use Rattle.steps.specs.Steps.{RunFits, RanOver}
-use Rattle.trace.specs.Refusals.{traceRefusal, endsRefusal, runRefusal, partsOf}
+use Rattle.run_refusals.specs.Refusals.{traceRefusal, endsRefusal, runRefusal, partsOf}
+use Rattle.run_refusals.proofs.PartLaws.{of-refused}
 use Rattle.trace.specs.Runs.{Shown, runOf, RunIs}
-use Rattle.trace.specs.declared.refusals.Parts.{Parts}
-use Rattle.trace.specs.declared.refusals.Parts.the-variants.{Refused as PartRefused, Fine}
+use Rattle.run_refusals.specs.declared.Parts.{Parts}
+use Rattle.run_refusals.specs.declared.Parts.the-variants.{Refused as PartRefused}
 use Rattle.trace.specs.declared.RunAnswer.the-variants.{Refused, Packets}
-
--- ---- what an answer says of the tests
-
-pub of-refused : (o : Option Refusal) {r : Refusal} {a : Parts} → a ≡ partsOf o → a ≡ PartRefused r → o ≡ some r
-of-refused (some x) e t = cc
-of-refused none e t = let z : _≡_ {A = ℕ} 0 1 = cc in absurd (omega arith)
-
-pub of-fine : (o : Option Refusal) {a : Parts} → a ≡ partsOf o → a ≡ Fine → o ≡ none
-of-fine (some x) e t = let z : _≡_ {A = ℕ} 0 1 = cc in absurd (omega arith)
-of-fine none e t = refl
 
 -- ---- where no part is refused
 

@@ -1,3 +1,2 @@
--- A trace run: how it is refused, and what it does.
-pub mod Refusals
+-- A trace run: what it does.
 pub mod Runs

@@ -16,7 +16,7 @@ use Rattle.outcomes.specs.Outcomes.{encodeOutcome}
 use Rattle.totals.specs.Sums.{asTotals}
 use Rattle.packet.specs.Packets.{endsIn}
 use Rattle.steps.specs.Steps.{toldBy, endsAfter}
-use Rattle.trace.specs.Refusals.{runRefusal}
+use Rattle.run_refusals.specs.Refusals.{runRefusal}
 use Rattle.trace.specs.declared.RunAnswer.{RunAnswer}
 use Rattle.trace.specs.declared.RunAnswer.the-variants.{Refused, Packets}
 use Rattle.trace.specs.declared.Ran.{Ran}

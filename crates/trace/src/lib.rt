@@ -1,12 +1,10 @@
 // A trace run.
-use crate::refusals::Parts;
 use checks::refusal::Refusal;
 use records::layout;
+use run_refusals::Parts;
 use totals::Totals;
 ghost use Rattle.totals.specs.Sums.{asTotals};
 ghost use Rattle.trace.specs.Runs.{RunIs};
-
-mod refusals;
 
 // A run's refusal, or how many packets it had.
 pub enum RunAnswer {
@@ -33,7 +31,7 @@ pub fn run(
     ensures { λ r. ⌜ RunIs (now (policy .entry)) (now (trace .entry)) (now (table .entry)) (now (keeper .entry)) (now (out .entry))
         (asTotals totals) r (now (table .exit)) (now (keeper .exit)) (now (out .exit)) ⌝ }
 {
-    if let Parts::Refused(refusal) = refusals::check_run(
+    if let Parts::Refused(refusal) = run_refusals::check_run(
         policy,
         trace,
         table,

@@ -5,8 +5,9 @@ use mathlib.Core.Option.{none}
 use lib.ListN.{length}
 use Rattle.ternary.proofs.ByteLaws.{bytes-of}
 use Rattle.totals.specs.Sums.{asTotals}
-use Rattle.trace.specs.Refusals.{runRefusal}
-use Rattle.trace.proofs.RunLaws.{of-fine, run-fits, run-refused, run-ran}
+use Rattle.run_refusals.specs.Refusals.{runRefusal}
+use Rattle.run_refusals.proofs.PartLaws.{of-fine}
+use Rattle.trace.proofs.RunLaws.{run-fits, run-refused, run-ran}
 use Rattle.trace.proofs.run.Statement.{statement}
 use Rattle.trace.proofs.run.Tie as tie
 

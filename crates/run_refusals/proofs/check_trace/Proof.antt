@@ -1,10 +1,10 @@
--- `trace::refusals::check_trace` meets its contract: at each `return` the tests that led there say which refusal it is. Assumes nothing.
+-- `run_refusals::check_trace` meets its contract: at each `return` the tests that led there say which refusal it is. Assumes nothing.
 use borrow.Author.Needs.{needs}
 use mathlib.Core.Path.{sym, _∙_}
 use borrow.Author.Tests.{eq-eqb, ne-eqb, lt-ltb, le-ltb}
-use Rattle.trace.specs.Refusals.{traceRefusal}
-use Rattle.trace.proofs.refusals.check_trace.Statement.{statement}
-use Rattle.trace.proofs.refusals.check_trace.Tie as tie
+use Rattle.run_refusals.specs.Refusals.{traceRefusal}
+use Rattle.run_refusals.proofs.check_trace.Statement.{statement}
+use Rattle.run_refusals.proofs.check_trace.Tie as tie
 
 returns : tie.Need-returns
 unfolding traceRefusal

@@ -16,8 +16,8 @@ use Rattle.flawed.specs.Flawed.{firstFlawed, traceFlawAt}
 use Rattle.slots.specs.Refusals.{slotsRefusal}
 use Rattle.policy.specs.Refusals.{flawRefusal, policyRefusal}
 use Rattle.totals.specs.Sums.{totalsFit}
-use Rattle.trace.specs.declared.refusals.Parts.{Parts}
-use Rattle.trace.specs.declared.refusals.Parts.the-variants.{Refused, Fine}
+use Rattle.run_refusals.specs.declared.Parts.{Parts}
+use Rattle.run_refusals.specs.declared.Parts.the-variants.{Refused, Fine}
 
 -- trace 1, 2, 3
 unfoldable pub traceRefusal : List ℕ → Option Refusal

@@ -1,4 +1,4 @@
--- `trace::refusals::check_run` meets its contract: at each `return` the tests that led there say which refusal it is. Assumes nothing.
+-- `run_refusals::check_run` meets its contract: at each `return` the tests that led there say which refusal it is. Assumes nothing.
 use borrow.Author.Needs.{needs}
 use mathlib.Core.Path.{_≡_, sym, _∙_}
 use mathlib.Core.Option.{none, some}
@@ -6,10 +6,10 @@ use borrow.Author.Tests.{le-leb, lt-leb}
 use Rattle.model.proofs.Cases.{not-true, not-false}
 use Rattle.policy.specs.Refusals.{policyRefusal}
 use Rattle.policy.proofs.CheckLaws.{check-refused, check-passed}
-use Rattle.trace.specs.Refusals.{traceRefusal, endsRefusal, runRefusal}
-use Rattle.trace.proofs.RunLaws.{of-refused, of-fine}
-use Rattle.trace.proofs.refusals.check_run.Statement.{statement}
-use Rattle.trace.proofs.refusals.check_run.Tie as tie
+use Rattle.run_refusals.specs.Refusals.{traceRefusal, endsRefusal, runRefusal}
+use Rattle.run_refusals.proofs.PartLaws.{of-refused, of-fine}
+use Rattle.run_refusals.proofs.check_run.Statement.{statement}
+use Rattle.run_refusals.proofs.check_run.Tie as tie
 
 -- the policy is not refused, nor is the trace, nor are the two ends
 fine-policy : (c : tie.After-enum-told) → policyRefusal (c .before .before .before .before .before .before .before .args .policy .now) ≡ none

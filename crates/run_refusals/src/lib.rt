@@ -7,7 +7,7 @@ ghost use mathlib.Core.Path.{_≡_};
 ghost use mathlib.Core.Option.{some};
 ghost use Rattle.checks.specs.Refusals.{refusal as refusalAt};
 ghost use Rattle.totals.specs.Sums.{asTotals};
-ghost use Rattle.trace.specs.Refusals.{traceRefusal, endsRefusal, runRefusal, partsOf};
+ghost use Rattle.run_refusals.specs.Refusals.{traceRefusal, endsRefusal, runRefusal, partsOf};
 
 // The refusal of some part that is lent, or that there is none.
 pub enum Parts {

@@ -1,12 +1,12 @@
--- `trace::refusals::check_ends` meets its contract: at each `return` the tests that led there say which refusal it is. Assumes nothing.
+-- `run_refusals::check_ends` meets its contract: at each `return` the tests that led there say which refusal it is. Assumes nothing.
 use borrow.Author.Needs.{needs}
 use mathlib.Core.Path.{sym, _∙_}
 use borrow.Author.Tests.{eq-eqb, ne-eqb}
 use Rattle.model.proofs.Cases.{not-true, not-false}
 use Rattle.slots.specs.Refusals.{slotsRefusal}
-use Rattle.trace.specs.Refusals.{endsRefusal}
-use Rattle.trace.proofs.refusals.check_ends.Statement.{statement}
-use Rattle.trace.proofs.refusals.check_ends.Tie as tie
+use Rattle.run_refusals.specs.Refusals.{endsRefusal}
+use Rattle.run_refusals.proofs.check_ends.Statement.{statement}
+use Rattle.run_refusals.proofs.check_ends.Tie as tie
 
 returns : tie.Need-returns
 unfolding endsRefusal slotsRefusal

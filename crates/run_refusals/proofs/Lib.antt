@@ -1,0 +1,2 @@
+-- What an answer says of the tests.
+pub mod PartLaws

@@ -1,0 +1,2 @@
+-- How a run is refused.
+pub mod Refusals
