@@ -1,4 +1,3 @@
 // The answers of the calls about a policy as plain numbers, and the structs that C reads.
-pub mod isolate_answers;
 pub mod policy_answers;
 pub mod structs;

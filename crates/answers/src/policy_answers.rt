@@ -2,15 +2,18 @@
 use crate::structs;
 use crate::structs::WgBestAnswer;
 use crate::structs::WgCount;
+use crate::structs::WgPart;
 use crate::structs::WgShown;
 use best::BestAnswer;
 use cover::CoverAnswer;
 use decision::ShowAnswer;
 use outcomes::kinds;
 use policy::PolicyAnswer;
+use policy::RecordAnswer;
 use records::layout;
 ghost use mathlib.Core.Path.{_≡_};
-ghost use Rattle.answers.specs.Policy.{checkedNumbers, bestNumbers, coveredNumbers, shownNumbers};
+ghost use Rattle.policy.specs.Answers.{recordAnswer};
+ghost use Rattle.answers.specs.Policy.{checkedNumbers, bestNumbers, recordNumbers, coveredNumbers, shownNumbers};
 
 // Of the check.
 pub fn checked_numbers(answer: PolicyAnswer) -> WgCount
@@ -55,6 +58,26 @@ pub fn best_numbers(answer: BestAnswer) -> WgBestAnswer
             found: 1,
             rule,
             action,
+        },
+    }
+}
+
+// Of the record of that number: where it lies in the policy.
+pub fn record_numbers(policy: &[u8], number: usize) -> WgPart
+    ensures { λ r. ⌜ r ≡ recordNumbers (recordAnswer (now (policy .entry)) number) number ⌝ }
+{
+    match policy::record_answer(policy, number) {
+        RecordAnswer::Refused(refusal) => WgPart {
+            refusal: refusal.number,
+            place: refusal.place,
+            offset: 0,
+            length: 0,
+        },
+        RecordAnswer::Shown => WgPart {
+            refusal: 0,
+            place: 0,
+            offset: layout::RULE_SIZE * number,
+            length: layout::RULE_SIZE,
         },
     }
 }

@@ -24,7 +24,8 @@ use Rattle.answers.specs.declared.structs.WgIsolated.{WgIsolated}
 use Rattle.answers.specs.declared.structs.WgOutcome.{WgOutcome}
 use Rattle.wunnagresk.specs.TableCalls.{LookupCall, WriteCall}
 use Rattle.wunnagresk.specs.KeeperCalls.{MissCall, ReportCall, OpenCall}
-use Rattle.wunnagresk.specs.PolicyCalls.{CoverCall, IsolateCall}
+use Rattle.wunnagresk.specs.PolicyCalls.{CoverCall}
+use Rattle.isolate_answers.specs.IsolateCalls.{IsolateCall}
 
 -- a buffer's bytes
 abbrev pub Buffer : Type 0

@@ -1,3 +1,2 @@
--- Laws of the call that isolates, and what lies at the places that the answers tell.
-pub mod IsolateLaws
+-- What lies at the places that the answers tell.
 pub mod Named

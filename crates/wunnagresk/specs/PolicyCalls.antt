@@ -1,26 +1,12 @@
--- The calls about a policy that write, as C sees them: the numbers of the answer, and the output after it. Assumes nothing.
+-- The cover list as C sees it: the numbers of the answer, and the output after it. Assumes nothing.
 use mathlib.Core.Path.{_≡_}
-use mathlib.Core.List.{List, _++_}
+use mathlib.Core.List.{List}
 use Prim.Native.Nat.{ℕ}
 use lib.ListN.{length}
-use Rattle.model.specs.Isolate.{Isolated, isolate}
-use Rattle.ternary.specs.Sizes.{keySize, positions}
-use Rattle.records.specs.Rules.{rules}
 use Rattle.cover.specs.Answers.{coverRefusal, coverList, numberBytes, outOf, answerOf}
 use Rattle.answers.specs.Policy.{coveredNumbers}
-use Rattle.answers.specs.Isolate.{patternRefusal, isolatedNumbers}
 use Rattle.answers.specs.declared.structs.WgCount.{WgCount}
-use Rattle.answers.specs.declared.structs.WgIsolated.{WgIsolated}
 
 pub record CoverCall (policy : List ℕ) (number : ℕ) (out : List ℕ) (r : WgCount) (out′ : List ℕ) : Type 0 where
   pub numbers : r ≡ coveredNumbers (answerOf (coverRefusal policy number (length out)) (length (coverList policy number)))
   pub written : out′ ≡ outOf (coverRefusal policy number (length out)) (numberBytes (coverList policy number)) out
-
--- the model's isolated rule, over the bytes of the policy
-abbrev pub isolatedIn : List ℕ → List ℕ → ℕ → Isolated
-isolatedIn policy key number = isolate positions (rules keySize policy) key number
-
-pub record IsolateCall (policy key : List ℕ) (number : ℕ) (out : List ℕ) (r : WgIsolated) (out′ : List ℕ) : Type 0 where
-  pub numbers : r ≡ isolatedNumbers (patternRefusal policy key number (length out)) (isolatedIn policy key number)
-  pub written : out′ ≡ outOf (patternRefusal policy key number (length out))
-      (isolatedIn policy key number .value ++ isolatedIn policy key number .mask) out

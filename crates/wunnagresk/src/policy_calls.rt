@@ -4,15 +4,13 @@ use answers::structs::WgCount;
 use answers::structs::WgIsolated;
 use answers::structs::WgPart;
 use answers::structs::WgShown;
-use checks::refusal;
-use checks::refusal::Refusal;
-use records::layout;
 ghost use mathlib.Core.Path.{_≡_};
 ghost use Rattle.policy.specs.Answers.{checkAnswer, recordAnswer};
 ghost use Rattle.best.specs.Answers.{bestAnswer};
 ghost use Rattle.decision.specs.Answers.{showAnswer};
 ghost use Rattle.answers.specs.Policy.{checkedNumbers, bestNumbers, recordNumbers, shownNumbers};
-ghost use Rattle.wunnagresk.specs.PolicyCalls.{CoverCall, IsolateCall};
+ghost use Rattle.isolate_answers.specs.IsolateCalls.{IsolateCall};
+ghost use Rattle.wunnagresk.specs.PolicyCalls.{CoverCall};
 
 // Checks a policy, and counts its rules.
 #[no_mangle]
@@ -35,20 +33,7 @@ pub extern "C" fn wg_best(policy: &[u8], key: &[u8]) -> WgBestAnswer
 pub extern "C" fn wg_rule(policy: &[u8], number: usize) -> WgPart
     ensures { λ r. ⌜ r ≡ recordNumbers (recordAnswer (now (policy .entry)) number) number ⌝ }
 {
-    match policy::record_answer(policy, number) {
-        policy::RecordAnswer::Refused(refusal) => WgPart {
-            refusal: refusal.number,
-            place: refusal.place,
-            offset: 0,
-            length: 0,
-        },
-        policy::RecordAnswer::Shown => WgPart {
-            refusal: 0,
-            place: 0,
-            offset: layout::RULE_SIZE * number,
-            length: layout::RULE_SIZE,
-        },
-    }
+    answers::policy_answers::record_numbers(policy, number)
 }
 
 // Writes the cover list of a rule to the start of `out`, two bytes a number.
@@ -64,21 +49,7 @@ pub extern "C" fn wg_cover(policy: &[u8], number: usize, out: &mut [u8]) -> WgCo
 pub extern "C" fn wg_isolate(policy: &[u8], key: &[u8], number: usize, out: &mut [u8]) -> WgIsolated
     ensures { λ r. ⌜ IsolateCall (now (policy .entry)) (now (key .entry)) number (now (out .entry)) r (now (out .exit)) ⌝ }
 {
-    let answer = isolate::isolate(policy, key, number);
-    let said = answer.said;
-    let value = answer.value;
-    let mask = answer.mask;
-    if let isolate::Said::Refused(refusal) = said {
-        return answers::isolate_answers::refused_numbers(refusal);
-    }
-    if out.len() < answers::isolate_answers::PATTERN_SIZE {
-        return answers::isolate_answers::refused_numbers(Refusal {
-            number: refusal::SHORT_OUTPUT,
-            place: 0,
-        });
-    }
-    answers::isolate_answers::put_pattern(out, value, mask);
-    answers::isolate_answers::isolated_numbers(answer.fixed, answer.wildcards)
+    isolate_answers::isolate_with(policy, key, number, out)
 }
 
 // Which record decides for a key, and where it lies.

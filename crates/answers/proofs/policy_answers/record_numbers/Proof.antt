@@ -1,10 +1,10 @@
--- `wunnagresk::policy_calls::wg_rule` meets its contract: a record that is shown lies in the policy. Assumes nothing.
+-- `answers::policy_answers::record_numbers` meets its contract: a record that is shown lies in the policy. Assumes nothing.
 use borrow.Author.Needs.{needs}
 use mathlib.Core.Path.{sym, _∙_}
 use native.Mathlib.Omega.{arith}
 use Rattle.policy.proofs.RecordShown.{record-shown, shown-below}
-use Rattle.wunnagresk.proofs.policy_calls.wg_rule.Statement.{statement}
-use Rattle.wunnagresk.proofs.policy_calls.wg_rule.Tie as tie
+use Rattle.answers.proofs.policy_answers.record_numbers.Statement.{statement}
+use Rattle.answers.proofs.policy_answers.record_numbers.Tie as tie
 
 mul-t6 : tie.Need-mul-t6
 mul-t6 c = omega (arith, shown-below _ _ (record-shown _ _ (sym (c .enum-told .given .1) ∙ c .before .before .record-answer .ensures)))
@@ -15,8 +15,8 @@ returns c = rw (sym (c .before .before .before .record-answer .ensures) ∙ c .b
 returns-2 : tie.Need-returns-2
 returns-2 c = rw (sym (c .before .before .record-answer .ensures) ∙ c .enum-told .given .1)
 
-pub wg-rule-spec : {M : Type 1} → statement M
-wg-rule-spec =
+pub record-numbers-spec : {M : Type 1} → statement M
+record-numbers-spec =
     tie.close
     (tie.spec
     (λ c. search needs)

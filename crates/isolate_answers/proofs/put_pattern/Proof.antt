@@ -1,11 +1,11 @@
--- `answers::isolate_answers::put_pattern` meets its contract: the mask follows the value. Assumes nothing.
+-- `isolate_answers::put_pattern` meets its contract: the mask follows the value. Assumes nothing.
 use borrow.Author.Needs.{needs}
 use mathlib.Core.Path.{_≡_, _∙_}
 use Rattle.ternary.specs.Sizes.{keySize}
 use Rattle.buffers.specs.Parts.{splice}
 use Rattle.buffers.proofs.PartLaws.{splice-next}
-use Rattle.answers.proofs.isolate_answers.put_pattern.Statement.{statement}
-use Rattle.answers.proofs.isolate_answers.put_pattern.Tie as tie
+use Rattle.isolate_answers.proofs.put_pattern.Statement.{statement}
+use Rattle.isolate_answers.proofs.put_pattern.Tie as tie
 
 returns : tie.Need-returns
 returns c =

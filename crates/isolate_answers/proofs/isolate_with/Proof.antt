@@ -1,8 +1,8 @@
--- `wunnagresk::policy_calls::wg_isolate` meets its contract: each way out is one of the answer's with an output. Assumes nothing.
+-- `isolate_answers::isolate_with` meets its contract: each way out is one of the answer's with an output. Assumes nothing.
 use borrow.Author.Needs.{needs}
-use Rattle.wunnagresk.proofs.IsolateLaws.{counts-fit, call-refused, call-short, call-isolated}
-use Rattle.wunnagresk.proofs.policy_calls.wg_isolate.Statement.{statement}
-use Rattle.wunnagresk.proofs.policy_calls.wg_isolate.Tie as tie
+use Rattle.isolate_answers.proofs.IsolateLaws.{counts-fit, call-refused, call-short, call-isolated}
+use Rattle.isolate_answers.proofs.isolate_with.Statement.{statement}
+use Rattle.isolate_answers.proofs.isolate_with.Tie as tie
 
 returns : tie.Need-returns
 returns c =
@@ -26,8 +26,8 @@ returns-3 c =
     call-isolated _ _ _ _ (m .before .before .before .before .isolate .ensures) _ _ _ (m .enum-told .given .1) (f .if1 .left)
     (c .isolated-numbers .ensures) (c .before .before .before .put-pattern .ensures)
 
-pub wg-isolate-spec : {M : Type 1} → statement M
-wg-isolate-spec =
+pub isolate-with-spec : {M : Type 1} → statement M
+isolate-with-spec =
     tie.close
     (tie.spec
     (λ c. search needs)

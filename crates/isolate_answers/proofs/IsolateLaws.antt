@@ -18,9 +18,9 @@ use Rattle.isolate.specs.declared.IsolateAnswer.{IsolateAnswer}
 use Rattle.isolate.specs.declared.Said.{Said}
 use Rattle.isolate.specs.declared.Said.the-variants.{Refused, Isolated}
 use Rattle.isolate.proofs.Promise.{isolated-of, answer-isolates}
-use Rattle.answers.specs.Isolate.{patternSize, patternRefusal, refusedCounts, isolatedCounts}
+use Rattle.isolate_answers.specs.Isolate.{patternSize, patternRefusal, refusedCounts, isolatedCounts}
 use Rattle.answers.specs.declared.structs.WgIsolated.{WgIsolated}
-use Rattle.wunnagresk.specs.PolicyCalls.{isolatedIn, IsolateCall}
+use Rattle.isolate_answers.specs.IsolateCalls.{isolatedIn, IsolateCall}
 
 of-refused : (o : Option Refusal) (x : IsolatedRule) (r : Refusal) → (answerOf o x) .said ≡ Refused r → o ≡ some r
 of-refused (some s) x r e = cc

@@ -1,0 +1,2 @@
+-- Laws of the call that isolates, with an output.
+pub mod IsolateLaws
