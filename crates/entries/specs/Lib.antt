@@ -1,2 +1,3 @@
--- What it is to put an entry into its slot.
+-- What it is to put an entry into its slot, and to store a write.
 pub mod Puts
+pub mod Stores

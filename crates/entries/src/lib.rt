@@ -1,4 +1,6 @@
 // An entry goes into its slot, at either end.
+pub mod store;
+
 use messages::write::Write;
 use slots::slot::Slot;
 ghost use mathlib.Core.Path.{_≡_};

@@ -26,7 +26,7 @@ use Rattle.slots.proofs.SlotLaws.{slots-spell}
 use Rattle.slots.proofs.FitLaws.{slots-accepted}
 use Rattle.messages.specs.Writes.{decodeWrite}
 use Rattle.messages.specs.Reports.{encodeReport}
-use Rattle.received.specs.Stores.{Stored}
+use Rattle.entries.specs.Stores.{Stored}
 use Rattle.received.specs.Writes.{writeMessageRefusal, writeCallRefusal, takenOf, GoodWrite, GoodCall}
 use Rattle.received.specs.Writes.{slotsAfterWrite, tableAfterWrite, outAfterWrite, Received}
 use Rattle.received.specs.declared.write.WriteAnswer.the-variants.{Refused, Taken}

@@ -1,3 +1,2 @@
 -- The table receives a write: the answer, and what it leaves in the buffers.
-pub mod Stores
 pub mod Writes

@@ -1,3 +1,2 @@
 // The table receives a write of the keeper.
-mod store;
 pub mod write;

@@ -70,7 +70,7 @@ pub fn write(table: &mut [u8], message: &[u8], out: &mut [u8]) -> WriteAnswer
         return WriteAnswer::Refused(refusal);
     }
     let w = messages::write::write_of(message);
-    let x = crate::store::store(table, w);
+    let x = entries::store::store(table, w);
     let report = messages::report::Report {
         slot: w.slot,
         sequence: x.sequence,

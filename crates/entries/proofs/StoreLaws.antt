@@ -12,8 +12,8 @@ use Rattle.model.specs.Ends.{isNewer, afterWrite}
 use Rattle.ternary.specs.Sizes.{keySize}
 use Rattle.slots.specs.Slots.{slotCount, slotIn, slots}
 use Rattle.slots.proofs.SlotLaws.{slot-count, slot-at}
 use Rattle.entries.specs.Puts.{EntryPut}
-use Rattle.received.specs.Stores.{Stored}
+use Rattle.entries.specs.Stores.{Stored}
 
 module _ (table : List ℕ) (w : Write) (old : Slot) where
   -- the write's sequence is not greater than that of the slot, as it was read

@@ -6,7 +6,7 @@ ghost use Rattle.ternary.specs.Sizes.{keySize};
 ghost use Rattle.slots.specs.Slots.{slotCount};
 ghost use Rattle.slots.specs.Structs.{asSlot};
 ghost use Rattle.messages.specs.Structs.{asWrite};
-ghost use Rattle.received.specs.Stores.{Stored};
+ghost use Rattle.entries.specs.Stores.{Stored};
 
 // Stores a write in its slot of a table if its sequence is greater than the slot's, and gives the slot as it then is.
 pub fn store(table: &mut [u8], w: Write) -> Slot
@@ -17,5 +17,5 @@ pub fn store(table: &mut [u8], w: Write) -> Slot
     if w.sequence <= old.sequence {
         return old;
     }
-    entries::put_entry(table, w)
+    crate::put_entry(table, w)
 }

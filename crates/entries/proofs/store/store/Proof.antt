@@ -1,10 +1,10 @@
--- `received::store::store` meets its contract: an entry of a greater sequence is put, and no other. Assumes nothing.
+-- `entries::store::store` meets its contract: an entry of a greater sequence is put, and no other. Assumes nothing.
 use borrow.Author.Needs.{needs}
 use native.Mathlib.Omega.{arith}
 use Rattle.slots.specs.Structs.{asSlot}
-use Rattle.received.proofs.StoreLaws.{stored-kept, stored-new}
-use Rattle.received.proofs.store.store.Statement.{statement}
-use Rattle.received.proofs.store.store.Tie as tie
+use Rattle.entries.proofs.StoreLaws.{stored-kept, stored-new}
+use Rattle.entries.proofs.store.store.Statement.{statement}
+use Rattle.entries.proofs.store.store.Tie as tie
 
 returns : tie.Need-returns
 returns c =

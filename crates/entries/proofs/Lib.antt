@@ -1,0 +1,2 @@
+-- Laws of a write's storing.
+pub mod StoreLaws
