@@ -5,13 +5,13 @@ use Prim.Native.Nat.{ℕ, _+_, _-_, _≤_, _<_}
 use native.Mathlib.Omega.{arith}
 use borrow.Author.Tests.{leb-true, leb-false, le-leb, lt-leb}
 use lib.Dec.{leb}
-use lib.ListN.{length, take, drop}
+use lib.ListN.{length, take, drop, getD, List·getD-eq-default}
 use lib.Seq.{take-all}
 use Rattle.model.proofs.Cases.{by-cases}
 use Rattle.buffers.specs.Numbers.{be}
-use Rattle.buffers.specs.Parts.{part}
-use Rattle.buffers.proofs.PartLaws.{part-length}
-use Rattle.cases.specs.Cases.{partIn, numberAt}
+use Rattle.buffers.specs.Parts.{part, splice}
+use Rattle.buffers.proofs.PartLaws.{part-length, part-of-splice}
+use Rattle.cases.specs.Cases.{partIn, numberAt, copiedIn}
 
 -- s ends before, and it does not
 pub part-missing : (from n : ℕ) (s : List ℕ) → length s < from + n → [] ≡ partIn from n s
@@ -33,6 +33,19 @@ part-within from n s =
     let l = leb-true (from + n) (length s) e in
     omega (arith, ap length (part-there from n s l), part-length n from s l))
     (λ e. omega (arith, ap length (part-missing from n s (leb-false (from + n) (length s) e))))
+
+-- a byte past the end
+pub byte-missing : (at : ℕ) (s : List ℕ) → length s ≤ at → 0 ≡ getD s at 0
+byte-missing at s l = sym (List·getD-eq-default s 0 l)
+
+-- what is copied: nothing, or all
+pub copied-none : (old room : List ℕ) → length room < length old → [] ≡ copiedIn old room
+unfolding copiedIn
+copied-none old room l = rw (lt-leb (length old) (length room) l)
+
+pub copied-all : (old room : List ℕ) → length old ≤ length room → take (length old) (splice 0 old room) ≡ copiedIn old room
+unfolding copiedIn
+copied-all old room l = rw (le-leb (length old) (length room) l) (part-of-splice 0 old room (omega arith) (length old) refl)
 
 -- a number of which bytes are missing, and a whole one
 module _ {q : List ℕ} (at : ℕ) (s : List ℕ) (is : q ≡ partIn at 4 s) where

@@ -1,7 +1,7 @@
 // Parts of a file of cases, and numbers in it.
 ghost use mathlib.Core.Path.{_≡_};
 ghost use Prim.Native.Nat.{_+_, _<_, _≤_};
-ghost use lib.ListN.{length};
+ghost use lib.ListN.{length, getD};
 ghost use Rattle.buffers.specs.Numbers.{be};
 ghost use Rattle.cases.specs.Cases.{partIn, numberAt, partOf};
 
@@ -46,14 +46,14 @@ pub fn part_of<'a>(s: &'a [u8], question: &[u8], at: usize) -> &'a [u8]
 
 // A byte as a wider number.
 fn wide8(x: u8) -> usize
-    ensures { λ r. ⌜ r < 256 ⌝ }
+    ensures { λ r. ⌜ (r ≡ x) × (r < 256) ⌝ }
 {
     x as usize
 }
 
 // The byte at `at`; 0 where `s` ends before.
 pub fn byte(s: &[u8], at: usize) -> usize
-    ensures { λ r. ⌜ r < 256 ⌝ }
+    ensures { λ r. ⌜ (r ≡ getD (now (s .entry)) at 0) × (r < 256) ⌝ }
 {
     if at >= s.len() {
         return 0;

@@ -2,13 +2,17 @@
 use crate::say::say_bytes;
 use crate::say::say_word;
 use records::layout;
+ghost use mathlib.Core.Path.{_≡_};
 ghost use Prim.Native.Nat.{_<_};
+ghost use Rattle.cases.specs.Cases.{partIn, copiedIn};
 
 // More slots than an end may have.
 const MANY_SLOTS: usize = 258;
 
 // The first n bytes of `s`; none where it has fewer.
-pub fn front(s: &mut [u8], n: usize) -> &mut [u8] {
+pub fn front(s: &mut [u8], n: usize) -> &mut [u8]
+    ensures { λ r. ⌜ now r ≡ partIn 0 n (now (s .entry)) ⌝ }
+{
     if n > s.len() {
         return &mut s[0..0];
     }
@@ -16,7 +20,9 @@ pub fn front(s: &mut [u8], n: usize) -> &mut [u8] {
 }
 
 // A copy of `old` in the first bytes of `room`; none where it has fewer.
-pub fn copied<'a>(old: &[u8], room: &'a mut [u8]) -> &'a mut [u8] {
+pub fn copied<'a>(old: &[u8], room: &'a mut [u8]) -> &'a mut [u8]
+    ensures { λ r. ⌜ now r ≡ copiedIn (now (old .entry)) (now (room .entry)) ⌝ }
+{
     if old.len() > room.len() {
         return &mut room[0..0];
     }

@@ -1,11 +1,13 @@
 -- `cases::questions::question` meets its contract: a part ends where the file does, or before. Assumes nothing.
 use borrow.Author.Needs.{needs}
+use Rattle.cases.specs.Cases.{questionAt}
 use Rattle.cases.proofs.CaseLaws.{part-within}
 use Rattle.cases.proofs.questions.question.Statement.{statement}
 use Rattle.cases.proofs.questions.question.Tie as tie
 
 returns : tie.Need-returns
-returns c = rw (c .part2 .ensures) (part-within _ _ _)
+unfolding questionAt
+returns c = (cc, rw (c .part2 .ensures) (part-within _ _ _))
 
 pub question-spec : {M : Type 1} → statement M
 question-spec =
