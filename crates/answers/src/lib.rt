@@ -1,3 +1,2 @@
-// The answers of the calls about a policy as plain numbers, and the structs that C reads.
-pub mod policy_answers;
+// The structs that C reads.
 pub mod structs;

@@ -11,7 +11,7 @@ use Rattle.policy.specs.Answers.{recordRefusal, recordOf, recordAnswer, shownOf
 use Rattle.decision.specs.Answers.{partOf, showAnswer, shownPart}
 use Rattle.decision.specs.declared.ShowAnswer.{ShowAnswer}
 use Rattle.decision.specs.declared.ShowAnswer.the-variants.{Refused, NoRule, FromTable, FromPolicy}
-use Rattle.answers.specs.Policy.{recordNumbers, shownNumbers}
+use Rattle.part_answers.specs.Parts.{recordNumbers, shownNumbers}
 use Rattle.wunnagresk.specs.Named.{shownAt, recordAt, NamedParts}
 
 of-answer : (policy table : List ℕ) (a : ShowAnswer) → shownAt policy table (shownNumbers a) ≡ partOf policy table a

@@ -15,7 +15,7 @@ use Rattle.open_slots.specs.Opens.{openIn, openRefusal, answerOf as openOf}
 use Rattle.verdict.specs.Decisions.{deciding, missIn}
 use Rattle.miss.specs.Answers.{missRefused, missBytes, outWith, answerOf as missAnswerOf}
 use Rattle.miss.specs.declared.MissAnswer.{MissAnswer}
-use Rattle.end_answers.specs.Keeper.{outcomeNumbers, reportedNumbers, openedNumbers}
+use Rattle.keeper_answers.specs.Keeper.{outcomeNumbers, reportedNumbers, openedNumbers}
 use Rattle.answers.specs.declared.structs.WgCount.{WgCount}
 use Rattle.answers.specs.declared.structs.WgDone.{WgDone}
 use Rattle.answers.specs.declared.structs.WgOutcome.{WgOutcome}

@@ -7,7 +7,7 @@ use lib.Dec.{eqb}
 use Rattle.buffers.specs.Parts.{part}
 use Rattle.policy.specs.Answers.{recordAnswer, shownRecord}
 use Rattle.decision.specs.Answers.{showAnswer, shownPart}
-use Rattle.answers.specs.Policy.{recordNumbers, shownNumbers}
+use Rattle.part_answers.specs.Parts.{recordNumbers, shownNumbers}
 use Rattle.answers.specs.declared.structs.WgPart.{WgPart}
 use Rattle.answers.specs.declared.structs.WgShown.{WgShown}
 

@@ -4,7 +4,7 @@ use mathlib.Core.List.{List}
 use Prim.Native.Nat.{ℕ}
 use lib.ListN.{length}
 use Rattle.cover.specs.Answers.{coverRefusal, coverList, numberBytes, outOf, answerOf}
-use Rattle.answers.specs.Policy.{coveredNumbers}
+use Rattle.policy_answers.specs.Policy.{coveredNumbers}
 use Rattle.answers.specs.declared.structs.WgCount.{WgCount}
 
 pub record CoverCall (policy : List ℕ) (number : ℕ) (out : List ℕ) (r : WgCount) (out′ : List ℕ) : Type 0 where

@@ -5,7 +5,7 @@ use Prim.Native.Nat.{ℕ}
 use lib.ListN.{length}
 use Rattle.table.specs.Lookups.{lookupAnswer, tableAfterLookup, outAfterLookup}
 use Rattle.received.specs.Writes.{writeCallRefusal, takenOf, tableAfterWrite, outAfterWrite}
-use Rattle.end_answers.specs.Table.{foundNumbers, writtenNumbers}
+use Rattle.table_answers.specs.Table.{foundNumbers, writtenNumbers}
 use Rattle.answers.specs.declared.structs.WgDone.{WgDone}
 use Rattle.answers.specs.declared.structs.WgFound.{WgFound}
 

@@ -8,7 +8,8 @@ ghost use mathlib.Core.Path.{_≡_};
 ghost use Rattle.policy.specs.Answers.{checkAnswer, recordAnswer};
 ghost use Rattle.best.specs.Answers.{bestAnswer};
 ghost use Rattle.decision.specs.Answers.{showAnswer};
-ghost use Rattle.answers.specs.Policy.{checkedNumbers, bestNumbers, recordNumbers, shownNumbers};
+ghost use Rattle.policy_answers.specs.Policy.{checkedNumbers, bestNumbers};
+ghost use Rattle.part_answers.specs.Parts.{recordNumbers, shownNumbers};
 ghost use Rattle.isolate_answers.specs.IsolateCalls.{IsolateCall};
 ghost use Rattle.wunnagresk.specs.PolicyCalls.{CoverCall};
 
@@ -17,7 +18,7 @@ ghost use Rattle.wunnagresk.specs.PolicyCalls.{CoverCall};
 pub extern "C" fn wg_check(policy: &[u8]) -> WgCount
     ensures { λ r. ⌜ r ≡ checkedNumbers (checkAnswer (now (policy .entry))) ⌝ }
 {
-    answers::policy_answers::checked_numbers(policy::check(policy))
+    policy_answers::checked_numbers(policy::check(policy))
 }
 
 // The best rule of a key.
@@ -25,7 +26,7 @@ pub extern "C" fn wg_check(policy: &[u8]) -> WgCount
 pub extern "C" fn wg_best(policy: &[u8], key: &[u8]) -> WgBestAnswer
     ensures { λ r. ⌜ r ≡ bestNumbers (bestAnswer (now (policy .entry)) (now (key .entry))) ⌝ }
 {
-    answers::policy_answers::best_numbers(best::best(policy, key))
+    policy_answers::best_numbers(best::best(policy, key))
 }
 
 // Where the record of that number lies in the policy.
@@ -33,7 +34,7 @@ pub extern "C" fn wg_best(policy: &[u8], key: &[u8]) -> WgBestAnswer
 pub extern "C" fn wg_rule(policy: &[u8], number: usize) -> WgPart
     ensures { λ r. ⌜ r ≡ recordNumbers (recordAnswer (now (policy .entry)) number) number ⌝ }
 {
-    answers::policy_answers::record_numbers(policy, number)
+    part_answers::record_numbers(policy, number)
 }
 
 // Writes the cover list of a rule to the start of `out`, two bytes a number.
@@ -41,7 +42,7 @@ pub extern "C" fn wg_rule(policy: &[u8], number: usize) -> WgPart
 pub extern "C" fn wg_cover(policy: &[u8], number: usize, out: &mut [u8]) -> WgCount
     ensures { λ r. ⌜ CoverCall (now (policy .entry)) number (now (out .entry)) r (now (out .exit)) ⌝ }
 {
-    answers::policy_answers::covered_numbers(cover::cover(policy, number, out))
+    policy_answers::covered_numbers(cover::cover(policy, number, out))
 }
 
 // Isolates the key's best rule, and writes its pattern to the start of `out`, value then mask.
@@ -57,5 +58,5 @@ pub extern "C" fn wg_isolate(policy: &[u8], key: &[u8], number: usize, out: &mut
 pub extern "C" fn wg_show(policy: &[u8], key: &[u8], table: &[u8]) -> WgShown
     ensures { λ r. ⌜ r ≡ shownNumbers (showAnswer (now (policy .entry)) (now (key .entry)) (now (table .entry))) ⌝ }
 {
-    answers::policy_answers::shown_numbers(decision::show_answer(policy, key, table))
+    part_answers::shown_numbers(decision::show_answer(policy, key, table))
 }

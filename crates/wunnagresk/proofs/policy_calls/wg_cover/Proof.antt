@@ -1,7 +1,7 @@
 -- `wunnagresk::policy_calls::wg_cover` meets its contract: the inner call's answer as numbers, its buffers as they are. Assumes nothing.
 use borrow.Author.Needs.{needs}
 use mathlib.Core.Path.{ap, _∙_}
-use Rattle.answers.specs.Policy.{coveredNumbers}
+use Rattle.policy_answers.specs.Policy.{coveredNumbers}
 use Rattle.wunnagresk.proofs.policy_calls.wg_cover.Statement.{statement}
 use Rattle.wunnagresk.proofs.policy_calls.wg_cover.Tie as tie
 

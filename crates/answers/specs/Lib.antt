@@ -1,2 +1,0 @@
--- The numbers and values of each answer about a policy, as C is told them.
-pub mod Policy

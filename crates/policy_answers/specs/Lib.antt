@@ -1,0 +1,2 @@
+-- The numbers of the answers about a policy, as C is told them.
+pub mod Policy
