@@ -22,7 +22,7 @@ use Rattle.trace.specs.declared.Ran.{Ran}
 use Rattle.line.specs.Line.{lineSize}
 use Rattle.lines.specs.Printed.{outcomeLine, totalsLine, refusalLine}
 use Rattle.listing.specs.Listing.{linesIn}
-use Rattle.replay.specs.Slots.{slotsIn}
+use Rattle.slots_text.specs.Slots.{slotsIn}
 use Rattle.replay.specs.Files.{fileRefusal}
 
 -- an end of n cleared slots

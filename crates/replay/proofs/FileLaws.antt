@@ -12,10 +12,10 @@ use Rattle.records.specs.Layout.{mostSlots}
 use Rattle.checks.specs.Refusals.{need}
 use Rattle.checks.specs.declared.refusal.Refusal.{Refusal}
 use Rattle.checks.proofs.RefusalLaws.{need-none}
-use Rattle.replay.specs.Slots.{slotsIn}
+use Rattle.slots_text.specs.Slots.{slotsIn}
 use Rattle.replay.specs.Files.{mostPolicyBytes, mostTraceBytes, fileRefusal, answerOf, fileAnswer}
 use Rattle.replay.specs.declared.FileAnswer.the-variants.{Refused, Slots}
-use Rattle.replay.proofs.SlotText.{slots-few}
+use Rattle.slots_text.proofs.SlotText.{slots-few}
 
 -- three files that are taken
 pub record Taken (slots policy trace : List ℕ) (n : ℕ) : Type 0 where

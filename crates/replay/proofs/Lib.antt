@@ -1,4 +1,2 @@
--- Laws of what slots.txt says, and of the answer about the files.
-pub mod SlotText
+-- Laws of the answer about the files.
 pub mod FileLaws
-pub mod Reading

@@ -9,7 +9,7 @@ use Rattle.ternary.specs.Sizes.{keySize}
 use Rattle.records.specs.Layout.{ruleSize, traceSize, mostRules, mostPackets}
 use Rattle.checks.specs.declared.refusal.Refusal.{Refusal}
 use Rattle.checks.specs.Refusals.{need}
-use Rattle.replay.specs.Slots.{slotsIn}
+use Rattle.slots_text.specs.Slots.{slotsIn}
 use Rattle.replay.specs.declared.FileAnswer.{FileAnswer}
 use Rattle.replay.specs.declared.FileAnswer.the-variants.{Refused, Slots}
 

@@ -1,3 +1,2 @@
 -- What the program's three files say.
-pub mod Slots
 pub mod Files

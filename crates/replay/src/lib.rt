@@ -1,6 +1,4 @@
 // What the program's three files say, by their bytes alone.
-pub mod slots;
-
 use checks::refusal;
 use checks::refusal::Refusal;
 use records::layout;
@@ -17,7 +15,7 @@ pub enum FileAnswer {
 pub fn file_answer(slots: &[u8], policy: &[u8], trace: &[u8]) -> FileAnswer
     ensures { λ r. ⌜ r ≡ fileAnswer (now (slots .entry)) (now (policy .entry)) (now (trace .entry)) ⌝ }
 {
-    let n = slots::slot_count(slots);
+    let n = slots_text::slot_count(slots);
     if n == 0 {
         return FileAnswer::Refused(Refusal {
             number: refusal::BAD_SLOTS,

@@ -4,7 +4,7 @@ ghost use mathlib.Core.Path.{_≡_};
 ghost use Prim.Native.Nat.{_≤_};
 ghost use lib.ListN.{length};
 ghost use Rattle.line.specs.Decimal.{numberIn};
-ghost use Rattle.replay.specs.Slots.{slotsIn};
+ghost use Rattle.slots_text.specs.Slots.{slotsIn};
 
 // A slots.txt of a number from 1 to 256 and a newline has two to four bytes.
 const FEWEST: usize = 2;

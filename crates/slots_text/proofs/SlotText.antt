@@ -17,7 +17,7 @@ use Rattle.records.specs.Layout.{mostSlots}
 use Rattle.line.specs.Decimal.{digit, decimalIn, decimal, numberFrom, numberIn}
 use Rattle.lines.specs.Printed.{newline, lineOf}
 use Rattle.line.proofs.DecimalLaws.{decimal-one, decimal-number, number-digit, was-digit}
-use Rattle.replay.specs.Slots.{same, saysSlots, slotsIn}
+use Rattle.slots_text.specs.Slots.{same, saysSlots, slotsIn}
 
 -- ---- the same bytes
 

@@ -1,11 +1,11 @@
--- `replay::slots::number` meets its contract: reading on from what is read gives the whole number. Assumes nothing.
+-- `slots_text::number` meets its contract: reading on from what is read gives the whole number. Assumes nothing.
 use borrow.Author.Needs.{needs}
 use Prim.Native.Nat.{_-_, _≤_}
 use native.Mathlib.Omega.{arith}
 use lib.ListN.{length}
-use Rattle.replay.proofs.Reading.{Reading, reading-none, reading-small, reading-more, reading-below, reading-above, reading-all}
-use Rattle.replay.proofs.slots.number.Statement.{statement}
-use Rattle.replay.proofs.slots.number.Tie as tie
+use Rattle.slots_text.proofs.Reading.{Reading, reading-none, reading-small, reading-more, reading-below, reading-above, reading-all}
+use Rattle.slots_text.proofs.number.Statement.{statement}
+use Rattle.slots_text.proofs.number.Tie as tie
 
 abbrev Inv-loop : tie.InvT-loop
 Inv-loop digits n₀ i₀ n i = Reading digits i n

@@ -1,12 +1,12 @@
--- `replay::slots::slot_count` meets its contract: each return is a case of reading the text. Assumes nothing.
+-- `slots_text::slot_count` meets its contract: each return is a case of reading the text. Assumes nothing.
 use borrow.Author.Needs.{needs}
 use mathlib.Core.Path.{sym}
 use native.Mathlib.Omega.{arith}
 use lib.ListN.{length-take}
 use lib.Seq.{length-take-le}
-use Rattle.replay.proofs.SlotText.{too-short, too-long, no-newline, leading-zero, too-large, a-number}
-use Rattle.replay.proofs.slots.slot_count.Statement.{statement}
-use Rattle.replay.proofs.slots.slot_count.Tie as tie
+use Rattle.slots_text.proofs.SlotText.{too-short, too-long, no-newline, leading-zero, too-large, a-number}
+use Rattle.slots_text.proofs.slot_count.Statement.{statement}
+use Rattle.slots_text.proofs.slot_count.Tie as tie
 
 returns : tie.Need-returns
 returns c = too-short _ (search needs)

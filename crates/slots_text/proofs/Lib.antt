@@ -1,0 +1,3 @@
+-- Laws of what slots.txt says.
+pub mod Reading
+pub mod SlotText

@@ -1,0 +1,2 @@
+-- What slots.txt says.
+pub mod Slots
