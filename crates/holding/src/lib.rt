@@ -11,7 +11,7 @@ ghost use Rattle.holding.specs.Holding.{holdingOf};
 // Whether the i-th slot of an end is not empty and takes the key.
 pub fn slot_holds(s: &[u8], i: usize, key: &[u8]) -> bool
     requires { ⌜ (i < slotCount keySize (now s)) × (length (now key) ≡ keySize) ⌝ }
-    ensures { λ r. ⌜ r ≡ holds (positions) (slots keySize (now (s .entry))) (now (key .entry)) i ⌝ }
+    ensures { λ r. ⌜ r ≡ holds positions (slots keySize (now (s .entry))) (now (key .entry)) i ⌝ }
 {
     if buffers::be32(s, layout::SLOT_SIZE * i + layout::SLOT_SEQUENCE) == 0 {
         return false;
@@ -34,7 +34,7 @@ pub enum Holding {
 // The lowest slot of an end that is not empty and takes the key.
 pub fn first_holding(s: &[u8], key: &[u8]) -> Holding
     requires { ⌜ length (now key) ≡ keySize ⌝ }
-    ensures { λ r. ⌜ r ≡ holdingOf (firstFor (positions) (slots keySize (now (s .entry))) (now (key .entry))) ⌝ }
+    ensures { λ r. ⌜ r ≡ holdingOf (firstFor positions (slots keySize (now (s .entry))) (now (key .entry))) ⌝ }
 {
     let n = s.len() / layout::SLOT_SIZE;
     let mut i = 0;

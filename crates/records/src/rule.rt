@@ -44,7 +44,7 @@ pub fn rule_at(policy: &[u8], i: usize) -> Rule
 // Whether the i-th rule of a policy takes the key: its rows are compared where they lie.
 pub fn rule_matches(policy: &[u8], i: usize, key: &[u8]) -> bool
     requires { ⌜ (i < ruleCount keySize (now policy)) × (length (now key) ≡ keySize) ⌝ }
-    ensures { λ r. ⌜ r ≡ ruleMatches (positions) (rules keySize (now (policy .entry))) (now (key .entry)) i ⌝ }
+    ensures { λ r. ⌜ r ≡ ruleMatches positions (rules keySize (now (policy .entry))) (now (key .entry)) i ⌝ }
 {
     let value = layout::RULE_SIZE * i + layout::RULE_VALUE;
     let mask = layout::RULE_SIZE * i + layout::RULE_MASK;
