@@ -1,13 +1,15 @@
 -- A write's entry, stored in its slot. Assumes nothing.
 use mathlib.Core.Path.{_≡_}
+use mathlib.Core.Bool.{cond}
 use mathlib.Core.List.{List}
 use Prim.Native.Nat.{ℕ}
-use Rattle.model.specs.Records.{Slot, Write, slotAt}
-use Rattle.model.specs.Ends.{afterWrite}
+use Rattle.model.specs.Records.{Slot, Write, slotAt, entryIn, written}
+use Rattle.model.specs.Ends.{isNewer, afterWrite}
 use Rattle.ternary.specs.Sizes.{keySize}
-use Rattle.slots.specs.Slots.{slots}
+use Rattle.slots.specs.Slots.{slots, putSlot}
 
--- what it is to store a write, whose slot then is x
+-- what it is to store a write, whose slot then is x: the slot's bytes are replaced where the write is newer, and no other byte is
 pub record Stored (table : List ℕ) (w : Write) (x : Slot) (after : List ℕ) : Type 0 where
   pub slot : x ≡ slotAt (afterWrite (slots keySize table) w) (w .slot)
+  pub bytes : after ≡ cond (isNewer (slots keySize table) w) (putSlot keySize table (w .slot) (written (entryIn w))) table
   pub meaning : slots keySize after ≡ afterWrite (slots keySize table) w
