@@ -21,11 +21,12 @@ use Rattle.policy.specs.Answers.{checkAnswer}
 use Rattle.policy.proofs.CheckLaws.{check-refused, check-passed, check-count, passed-few}
 use Rattle.policy.specs.declared.PolicyAnswer.{PolicyAnswer}
 use Rattle.policy.specs.declared.PolicyAnswer.the-variants.{Refused as Bad, Rules}
-use Rattle.cover.specs.Numbers.{Lists, Under}
+use Rattle.numbers.specs.Numbers.{Lists, Under}
+use Rattle.numbers.specs.Written.{numberBytes}
+use Rattle.numbers.proofs.GatherLaws.{Gathered, gathered-few, gathered-under}
 use Rattle.cover.specs.Depends.{dependsOn}
-use Rattle.cover.specs.Answers.{coverList, numberBytes, coverRefusal, Covered}
+use Rattle.cover.specs.Answers.{coverList, coverRefusal, Covered}
 use Rattle.cover.specs.declared.CoverAnswer.the-variants.{Refused, Count}
-use Rattle.cover.proofs.ListLaws.{Gathered, gathered-few, gathered-under}
 
 -- ---- the policy's check
 

@@ -9,22 +9,17 @@ use lib.ListN.{length}
 use Rattle.model.specs.Policy.{dependents}
 use Rattle.model.specs.Refusals.{shortOutput, noSuchRule}
 use Rattle.ternary.specs.Sizes.{keySize, positions}
-use Rattle.buffers.specs.Numbers.{toBe}
-use Rattle.buffers.specs.Parts.{splice, spelled}
 use Rattle.records.specs.Rules.{ruleCount, rules}
 use Rattle.checks.specs.Refusals.{orElse, need}
 use Rattle.checks.specs.declared.refusal.Refusal.{Refusal}
 use Rattle.policy.specs.Refusals.{policyRefusal}
+use Rattle.numbers.specs.Written.{numberBytes, outOf}
 use Rattle.cover.specs.declared.CoverAnswer.{CoverAnswer}
 use Rattle.cover.specs.declared.CoverAnswer.the-variants.{Refused, Count}
 
 -- the dependents of the rule of that number, which are its cover list
 abbrev pub coverList : List ℕ → ℕ → List ℕ
 coverList policy number = dependents positions (rules keySize policy) number
-
--- the numbers of a list, two bytes each
-abbrev pub numberBytes : List ℕ → List ℕ
-numberBytes xs = spelled (toBe 2) xs
 
 -- policy 1, 2, 3; 6; 5, where the output has so much room
 unfoldable pub coverRefusal : List ℕ → ℕ → ℕ → Option Refusal
@@ -37,11 +32,6 @@ coverRefusal policy number room =
 abbrev pub answerOf : Option Refusal → ℕ → CoverAnswer
 answerOf (some r) n = Refused r
 answerOf none n = Count n
-
--- the output, which a refusal leaves as it was
-abbrev pub outOf : Option Refusal → List ℕ → List ℕ → List ℕ
-outOf (some r) written out = out
-outOf none written out = splice 0 written out
 
 -- the answer, and the output after it: the numbers of the cover list at its start, every other byte as it was
 pub record Covered (policy : List ℕ) (number : ℕ) (out : List ℕ) (r : CoverAnswer) (out′ : List ℕ) : Type 0 where

@@ -1,4 +1,3 @@
--- Lists of rule numbers, the test for a dependent, and what the cover list's call answers.
-pub mod Numbers
+-- The test for a dependent, and what the cover list's call answers.
 pub mod Depends
 pub mod Answers

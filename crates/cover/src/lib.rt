@@ -4,7 +4,6 @@ use checks::refusal::Refusal;
 ghost use Rattle.cover.specs.Answers.{Covered};
 
 pub mod dependents;
-pub mod numbers;
 
 // A refusal, or how many numbers were written.
 pub enum CoverAnswer {

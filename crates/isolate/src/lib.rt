@@ -45,7 +45,7 @@ fn may_isolate(policy: &[u8], key: &[u8], number: usize) -> Said
             match best::best_rule(policy, key) {
                 best::BestFound::NoRule => refused(refusal::NOT_BEST),
                 best::BestFound::Rule(best, _) => {
-                    if cover::numbers::wide(best) == number {
+                    if numbers::wide(best) == number {
                         Said::Isolated
                     } else {
                         refused(refusal::NOT_BEST)

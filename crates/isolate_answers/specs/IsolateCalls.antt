@@ -6,7 +6,7 @@ use lib.ListN.{length}
 use Rattle.model.specs.Isolate.{Isolated, isolate}
 use Rattle.ternary.specs.Sizes.{keySize, positions}
 use Rattle.records.specs.Rules.{rules}
-use Rattle.cover.specs.Answers.{outOf}
+use Rattle.numbers.specs.Written.{outOf}
 use Rattle.answers.specs.declared.structs.WgIsolated.{WgIsolated}
 use Rattle.isolate_answers.specs.Isolate.{patternRefusal, isolatedNumbers}
 

@@ -13,7 +13,7 @@ use Rattle.buffers.specs.Parts.{part, splice, spelled}
 use Rattle.buffers.proofs.NumberLaws.{be-toBe}
 use Rattle.records.specs.Layout.{mostSlots}
 use Rattle.checks.specs.declared.refusal.Refusal.{Refusal}
-use Rattle.cover.specs.Answers.{numberBytes}
+use Rattle.numbers.specs.Written.{numberBytes}
 use Rattle.open_slots.specs.Opens.{openIn, openRefusal, answerOf, Opened}
 use Rattle.open_slots.specs.declared.OpenAnswer.the-variants.{Count}
 

@@ -24,9 +24,9 @@ use Rattle.slots.specs.Slots.{slotCount, slots}
 use Rattle.slots.specs.Refusals.{slotsFit, slotsRefusal}
 use Rattle.slots.proofs.SlotLaws.{slot-count}
 use Rattle.slots.proofs.FitLaws.{fit-whole}
-use Rattle.cover.specs.Numbers.{Lists}
-use Rattle.cover.specs.Answers.{numberBytes}
-use Rattle.cover.proofs.ListLaws.{Gathered, gathered-none, gathered-few, gathered-passed, gathered-all}
+use Rattle.numbers.specs.Numbers.{Lists}
+use Rattle.numbers.specs.Written.{numberBytes}
+use Rattle.numbers.proofs.GatherLaws.{Gathered, gathered-none, gathered-few, gathered-passed, gathered-all}
 use Rattle.open_slots.specs.Opens.{openIn, openRefusal, Opened}
 use Rattle.open_slots.specs.declared.OpenAnswer.the-variants.{Refused, Count}
 

@@ -13,7 +13,7 @@ use Rattle.checks.specs.Refusals.{orElse, need}
 use Rattle.checks.specs.declared.refusal.Refusal.{Refusal}
 use Rattle.slots.specs.Slots.{slots}
 use Rattle.slots.specs.Refusals.{slotsRefusal}
-use Rattle.cover.specs.Answers.{numberBytes, outOf}
+use Rattle.numbers.specs.Written.{numberBytes, outOf}
 use Rattle.open_slots.specs.declared.OpenAnswer.{OpenAnswer}
 use Rattle.open_slots.specs.declared.OpenAnswer.the-variants.{Refused, Count}
 

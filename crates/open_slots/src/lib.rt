@@ -28,6 +28,6 @@ pub fn open_list(keeper: &[u8], out: &mut [u8]) -> OpenAnswer
             place: 0,
         });
     }
-    cover::numbers::put_numbers(list, out);
+    numbers::put_numbers(list, out);
     OpenAnswer::Count(list.count)
 }

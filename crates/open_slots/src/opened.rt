@@ -1,5 +1,5 @@
 // The open slots of the keeper.
-use cover::numbers::Numbers;
+use numbers::Numbers;
 use records::layout;
 use room::fields;
 ghost use mathlib.Core.Path.{_≡_};
@@ -9,7 +9,7 @@ ghost use Rattle.model.specs.Ends.{isOpen, openList};
 ghost use Rattle.ternary.specs.Sizes.{keySize};
 ghost use Rattle.records.specs.Layout.{mostSlots};
 ghost use Rattle.slots.specs.Slots.{slotCount, slots};
-ghost use Rattle.cover.specs.Numbers.{Lists};
+ghost use Rattle.numbers.specs.Numbers.{Lists};
 
 // Whether the i-th slot is open: not empty, and not settled.
 fn is_open(keeper: &[u8], i: usize) -> bool

@@ -20,7 +20,7 @@ use Rattle.model.proofs.BelowLaws.{most-unique, elem-keep, elem-at}
 use Rattle.model.proofs.PolicyLaws.{dependent-iff}
 use Rattle.model.proofs.RoundLaws.{fewer}
 use Rattle.model.proofs.IsolateLaws.{Rounds, rounds-start, rounds-next, resume, resume-start, resume-round, resume-stop}
-use Rattle.cover.specs.Numbers.{Lists, Under}
+use Rattle.numbers.specs.Numbers.{Lists, Under}
 use Rattle.rounds.specs.Structs.{PatternOf}
 
 -- ---- the scan: positions below p were seen, none of them is above `most`, and `best` is the first that reaches it

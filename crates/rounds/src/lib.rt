@@ -1,6 +1,6 @@
 // The rounds of isolating: each fixes the position that separates the most of the dependents that stand.
 use cover::dependents::dependents_of;
-use cover::numbers::Numbers;
+use numbers::Numbers;
 use records::layout;
 use records::layout::KEY_SIZE;
 use records::row::row_at;
@@ -15,7 +15,7 @@ ghost use Rattle.model.specs.Isolate.{isolate};
 ghost use Rattle.model.specs.Policy.{best, dependents};
 ghost use Rattle.ternary.specs.Sizes.{keySize, positions};
 ghost use Rattle.records.specs.Rules.{ruleCount, rules};
-ghost use Rattle.cover.specs.Numbers.{Lists};
+ghost use Rattle.numbers.specs.Numbers.{Lists};
 ghost use Rattle.rounds.specs.Ready.{Ready};
 ghost use Rattle.rounds.specs.Structs.{asIsolated, withCounts, PatternOf};
 

@@ -9,7 +9,7 @@ use lib.ListN.{length, take, getD, set, length-append, length-set}
 use lib.Seq.{take-suc, take-suc-set}
 use Rattle.model.specs.Below.{keep}
 use Rattle.model.proofs.Cases.{by-cases}
-use Rattle.cover.specs.Numbers.{Lists}
+use Rattle.numbers.specs.Numbers.{Lists}
 
 module _ (f : ℕ → Bool) where
   keep-last : (xs : List ℕ) (x : ℕ) → keep f (xs ++ (x ∷ [])) ≡ keep f xs ++ cond (f x) (x ∷ []) []

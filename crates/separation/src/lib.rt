@@ -1,5 +1,5 @@
 // Which dependents of a rule a position separates from it, for a key.
-use cover::numbers::Numbers;
+use numbers::Numbers;
 use records::layout;
 ghost use mathlib.Core.Path.{_≡_};
 ghost use mathlib.Core.Bool.{not};
@@ -9,7 +9,7 @@ ghost use Rattle.model.specs.Below.{keep};
 ghost use Rattle.model.specs.Isolate.{separates as separatesAt};
 ghost use Rattle.ternary.specs.Sizes.{keySize, positions};
 ghost use Rattle.records.specs.Rules.{ruleCount, rules};
-ghost use Rattle.cover.specs.Numbers.{Lists, Under};
+ghost use Rattle.numbers.specs.Numbers.{Lists, Under};
 ghost use Rattle.separation.specs.Columns.{bitSet, Separating, Marks};
 
 // The bits of byte b that are wildcards of the rule of that number, and exact in rule d and not as in the key's byte.

@@ -6,7 +6,8 @@ use Rattle.model.specs.Small.{row}
 use Rattle.best.specs.Answers.{bestAnswer}
 use Rattle.best.specs.declared.BestAnswer.{BestAnswer}
 use Rattle.best.specs.declared.BestAnswer.the-variants.{NoRule, Rule}
-use Rattle.cover.specs.Answers.{coverRefusal, coverList, numberBytes, answerOf, outOf}
+use Rattle.numbers.specs.Written.{numberBytes, outOf}
+use Rattle.cover.specs.Answers.{coverRefusal, coverList, answerOf}
 use Rattle.cover.specs.declared.CoverAnswer.{CoverAnswer}
 use Rattle.cover.specs.declared.CoverAnswer.the-variants.{Count}
 use Rattle.isolate.specs.Answers.{isolateAnswer}

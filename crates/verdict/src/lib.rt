@@ -1,7 +1,7 @@
 // What a miss comes to, by value: nothing is written yet.
-use cover::numbers::wide;
 use holding::Holding;
 use messages::write::Write;
+use numbers::wide;
 use outcomes::Outcome;
 use outcomes::kinds;
 use records::layout;

@@ -8,7 +8,7 @@ use Rattle.model.specs.Trace.{missOutcome}
 use Rattle.ternary.specs.Sizes.{keySize}
 use Rattle.slots.specs.Slots.{slots}
 use Rattle.messages.specs.Reports.{decodeReport}
-use Rattle.cover.specs.Answers.{numberBytes, outOf}
+use Rattle.numbers.specs.Written.{numberBytes, outOf}
 use Rattle.checks.specs.Refusals.{unlessRefused}
 use Rattle.keeper.specs.Reports.{reportRefused, reportAnswer, reportBytes}
 use Rattle.open_slots.specs.Opens.{openIn, openRefusal, answerOf as openOf}

@@ -3,7 +3,8 @@ use mathlib.Core.Path.{_≡_}
 use mathlib.Core.List.{List}
 use Prim.Native.Nat.{ℕ}
 use lib.ListN.{length}
-use Rattle.cover.specs.Answers.{coverRefusal, coverList, numberBytes, outOf, answerOf}
+use Rattle.numbers.specs.Written.{numberBytes, outOf}
+use Rattle.cover.specs.Answers.{coverRefusal, coverList, answerOf}
 use Rattle.policy_answers.specs.Policy.{coveredNumbers}
 use Rattle.answers.specs.declared.structs.WgCount.{WgCount}
 

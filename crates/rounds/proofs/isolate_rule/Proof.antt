@@ -11,7 +11,7 @@ use Rattle.ternary.specs.Sizes.{keySize, positions}
 use Rattle.records.specs.Layout.{mostRules}
 use Rattle.records.specs.Rules.{ruleCount, rules}
 use Rattle.records.proofs.RuleLaws.{rule-count}
-use Rattle.cover.specs.Numbers.{Under}
+use Rattle.numbers.specs.Numbers.{Under}
 use Rattle.separation.specs.Columns.{Marks}
 use Rattle.rounds.proofs.AtHand.{AtHand, at-first, at-next, weight-is}
 use Rattle.rounds.proofs.RoundsLaws.{Scan, scan-none, scan-taken, scan-kept, scan-chosen}

@@ -11,7 +11,7 @@ use Rattle.model.specs.Isolate.{separates}
 use Rattle.ternary.specs.Sizes.{keySize}
 use Rattle.records.specs.Layout.{mostRules}
 use Rattle.records.specs.Rules.{rules}
-use Rattle.cover.specs.Numbers.{Lists}
+use Rattle.numbers.specs.Numbers.{Lists}
 use Rattle.separation.proofs.StandingLaws.{list-none, list-left, list-gone}
 use Rattle.separation.proofs.left.Statement.{statement}
 use Rattle.separation.proofs.left.Tie as tie

@@ -11,7 +11,7 @@ use Rattle.buffers.specs.Parts.{splice, spelled}
 use Rattle.buffers.proofs.PartLaws.{length-splice, splice-next}
 use Rattle.buffers.proofs.RowLaws.{spelled-more, length-spelled}
 use Rattle.buffers.proofs.NumberLaws.{toBe-length}
-use Rattle.cover.specs.Answers.{numberBytes}
+use Rattle.numbers.specs.Written.{numberBytes}
 
 module _ (items out₀ : List ℕ) where
   -- the first i numbers are written

@@ -1,11 +1,11 @@
--- `cover::numbers::put_numbers` meets its contract: the first i numbers are written. Assumes nothing.
+-- `numbers::put_numbers` meets its contract: the first i numbers are written. Assumes nothing.
 use borrow.Author.Needs.{needs}
 use Prim.Native.Nat.{_-_, _≤_}
 use native.Mathlib.Omega.{arith}
 use native.Mathlib.Nat.{le-antisymm}
-use Rattle.cover.proofs.ByteLaws.{Written, written-none, written-more}
-use Rattle.cover.proofs.numbers.put_numbers.Statement.{statement}
-use Rattle.cover.proofs.numbers.put_numbers.Tie as tie
+use Rattle.numbers.proofs.ByteLaws.{Written, written-none, written-more}
+use Rattle.numbers.proofs.put_numbers.Statement.{statement}
+use Rattle.numbers.proofs.put_numbers.Tie as tie
 
 abbrev Inv-loop : tie.InvT-loop
 Inv-loop out₀ items count i₀ out i = (i ≤ count) × Written items out₀ i out

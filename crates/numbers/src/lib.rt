@@ -5,7 +5,7 @@ ghost use Prim.Native.Nat.{_*_, _≤_};
 ghost use lib.ListN.{length, take};
 ghost use Rattle.buffers.specs.Parts.{splice};
 ghost use Rattle.records.specs.Layout.{mostRules};
-ghost use Rattle.cover.specs.Answers.{numberBytes};
+ghost use Rattle.numbers.specs.Written.{numberBytes};
 
 // The first `count` items are the list; what the others hold does not matter.
 pub struct Numbers {

@@ -1,0 +1,3 @@
+-- Laws of lists of rule numbers: gathered by a loop, and their bytes.
+pub mod GatherLaws
+pub mod ByteLaws
