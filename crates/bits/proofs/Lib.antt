@@ -1,5 +1,4 @@
--- Laws of the bits of a pattern: stored, counted, and under wildcards.
-pub mod StoreLaws
+-- Laws of the bits of a pattern: counted, and under wildcards.
 pub mod CountLaws
 pub mod StrayBytes
 pub mod StrayLaws

@@ -1,4 +1,3 @@
 -- What the contracts on the bits of a pattern cite.
-pub mod Fixed
 pub mod Strays
 pub mod Counts

@@ -1,4 +1,4 @@
-// The bits of a pattern: read, fixed and counted; value bits under wildcards.
+// The bits of a pattern: read and counted; value bits under wildcards.
 use ternary::KEY_SIZE;
 use ternary::POSITIONS;
 use ternary::Pattern;
@@ -8,7 +8,6 @@ ghost use lib.ListN.{length};
 ghost use Rattle.model.specs.Bits.{bitAt};
 ghost use Rattle.model.specs.Pattern.{canonical as canonicalAt, firstStray, wildcards as wildcardsAt};
 ghost use Rattle.ternary.specs.Sizes.{positions};
-ghost use Rattle.bits.specs.Fixed.{Fixed};
 ghost use Rattle.bits.specs.Strays.{strayOf};
 ghost use Rattle.bits.specs.Counts.{exactBits};
 
@@ -51,21 +50,6 @@ pub fn canonical(pattern: Pattern) -> bool
         Stray::Clean => true,
         Stray::At(_) => false,
     }
-}
-
-// The pattern with position p made exact at the key's bit.
-pub fn fix_bit(pattern: Pattern, key: [u8; KEY_SIZE], p: usize) -> Pattern
-    requires { ⌜ p < positions ⌝ }
-    ensures { λ r. ⌜ Fixed (pattern .value) (pattern .mask) key p (r .value) (r .mask) ⌝ }
-{
-    let i = p / 8;
-    let one: u8 = 128 >> (p % 8);
-    let mut value = pattern.value;
-    let mut mask = pattern.mask;
-    // Of the byte's bits only that at p is taken from the key.
-    value[i] = value[i] ^ ((value[i] ^ key[i]) & one);
-    mask[i] = mask[i] | one;
-    Pattern { value, mask }
 }
 
 // The exact bits: the ones of the mask, summed over its bytes.

@@ -1,9 +1,9 @@
--- `bits::fix_bit` meets its contract: one byte of each row is stored, and of that byte one bit is new. Assumes nothing.
+-- `fixing::fix_bit` meets its contract: one byte of each row is stored, and of that byte one bit is new. Assumes nothing.
 use borrow.Author.Needs.{needs}
 use Rattle.ternary.proofs.ByteLaws.{bytes-of}
-use Rattle.bits.proofs.StoreLaws.{put-merged, put-raised}
-use Rattle.bits.proofs.fix_bit.Statement.{statement}
-use Rattle.bits.proofs.fix_bit.Tie as tie
+use Rattle.fixing.proofs.StoreLaws.{put-merged, put-raised}
+use Rattle.fixing.proofs.fix_bit.Statement.{statement}
+use Rattle.fixing.proofs.fix_bit.Tie as tie
 
 returns : tie.Need-returns
 returns c = record {
