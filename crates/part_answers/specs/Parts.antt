@@ -3,8 +3,8 @@ use Prim.Native.Nat.{ℕ, _*_}
 use Rattle.model.specs.Trace.{nothing}
 use Rattle.ternary.specs.Sizes.{keySize}
 use Rattle.records.specs.Layout.{ruleSize, slotSize}
-use Rattle.policy.specs.declared.RecordAnswer.{RecordAnswer}
-use Rattle.policy.specs.declared.RecordAnswer.the-variants.{Refused as RecordRefused, Shown}
+use Rattle.rule_records.specs.declared.RecordAnswer.{RecordAnswer}
+use Rattle.rule_records.specs.declared.RecordAnswer.the-variants.{Refused as RecordRefused, Shown}
 use Rattle.decision.specs.declared.ShowAnswer.{ShowAnswer}
 use Rattle.decision.specs.declared.ShowAnswer.the-variants.{Refused as ShowRefused, NoRule as ShowNone, FromTable, FromPolicy}
 use Rattle.answers.specs.declared.structs.WgPart.{WgPart}

@@ -4,17 +4,17 @@ use answers::structs::WgPart;
 use answers::structs::WgShown;
 use decision::ShowAnswer;
 use outcomes::kinds;
-use policy::RecordAnswer;
 use records::layout;
+use rule_records::RecordAnswer;
 ghost use mathlib.Core.Path.{_≡_};
-ghost use Rattle.policy.specs.Answers.{recordAnswer};
+ghost use Rattle.rule_records.specs.Answers.{recordAnswer};
 ghost use Rattle.part_answers.specs.Parts.{recordNumbers, shownNumbers};
 
 // Of the record of that number: where it lies in the policy.
 pub fn record_numbers(policy: &[u8], number: usize) -> WgPart
     ensures { λ r. ⌜ r ≡ recordNumbers (recordAnswer (now (policy .entry)) number) number ⌝ }
 {
-    match policy::record_answer(policy, number) {
+    match rule_records::record_answer(policy, number) {
         RecordAnswer::Refused(refusal) => WgPart {
             refusal: refusal.number,
             place: refusal.place,

@@ -1,4 +1,4 @@
-// The policy that a caller lends: its check, and what is answered from it.
+// The policy that a caller lends: its check, and the fields of its rules.
 use checks::refusal;
 use checks::refusal::Refusal;
 use records::layout;
@@ -7,7 +7,7 @@ ghost use Prim.Native.Nat.{_<_};
 ghost use Rattle.model.specs.Policy.{ruleAt};
 ghost use Rattle.ternary.specs.Sizes.{keySize};
 ghost use Rattle.records.specs.Rules.{ruleCount, rules};
-ghost use Rattle.policy.specs.Answers.{checkAnswer, recordAnswer, shownRecord};
+ghost use Rattle.policy.specs.Answers.{checkAnswer};
 
 // A policy's refusal, or its rule count.
 pub enum PolicyAnswer {
@@ -54,42 +54,4 @@ pub fn rule_action(policy: &[u8], i: usize) -> u16
     ensures { λ r. ⌜ r ≡ (ruleAt (rules keySize (now (policy .entry))) i) .action ⌝ }
 {
     buffers::be16(policy, layout::RULE_SIZE * i + layout::RULE_ACTION)
-}
-
-// Whether a rule's record is shown, or why it is not.
-pub enum RecordAnswer {
-    Refused(Refusal),
-    Shown,
-}
-
-// Whether the record of that number is shown: refusals 1, 2 and 3 of the policy, then 6. It changes nothing.
-pub fn record_answer(policy: &[u8], number: usize) -> RecordAnswer
-    ensures { λ r. ⌜ r ≡ recordAnswer (now (policy .entry)) number ⌝ }
-{
-    match check(policy) {
-        PolicyAnswer::Refused(refusal) => RecordAnswer::Refused(refusal),
-        PolicyAnswer::Rules(count) => {
-            if number < count {
-                RecordAnswer::Shown
-            } else {
-                RecordAnswer::Refused(Refusal {
-                    number: refusal::NO_SUCH_RULE,
-                    place: 0,
-                })
-            }
-        }
-    }
-}
-
-// The record of that number, as a part of the policy that was lent; the empty part where `record_answer` refuses.
-pub fn rule_record<'a>(policy: &'a [u8], number: usize) -> &'a [u8]
-    ensures { λ r. ⌜ now r ≡ shownRecord (now (policy .entry)) number ⌝ }
-{
-    match record_answer(policy, number) {
-        RecordAnswer::Refused(_) => &policy[0..0],
-        RecordAnswer::Shown => {
-            let at = layout::RULE_SIZE * number;
-            &policy[at..at + layout::RULE_SIZE]
-        }
-    }
 }

@@ -45,10 +45,10 @@ fn say_best(answer: best::BestAnswer) {
 }
 
 // The record with the answer beside it.
-fn say_record(answer: policy::RecordAnswer, record: &[u8]) {
+fn say_record(answer: rule_records::RecordAnswer, record: &[u8]) {
     match answer {
-        policy::RecordAnswer::Refused(r) => say_refused(r),
-        policy::RecordAnswer::Shown => say(b" "),
+        rule_records::RecordAnswer::Refused(r) => say_refused(r),
+        rule_records::RecordAnswer::Shown => say(b" "),
     }
     say_bytes(b"", record);
 }
@@ -138,8 +138,8 @@ fn call(what: usize, policy: &[u8], key: &[u8], number: usize, room: usize) {
         1 => say_check(policy::check(policy)),
         2 => say_best(best::best(policy, key)),
         3 => say_record(
-            policy::record_answer(policy, number),
-            policy::rule_record(policy, number),
+            rule_records::record_answer(policy, number),
+            rule_records::rule_record(policy, number),
         ),
         4 => ask_cover(policy, number, room),
         5 => say_isolated(isolate::isolate(policy, key, number)),

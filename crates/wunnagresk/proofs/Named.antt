@@ -7,7 +7,7 @@ use Rattle.ternary.specs.Sizes.{keySize}
 use Rattle.buffers.specs.Parts.{chunk}
 use Rattle.records.specs.Layout.{ruleSize}
 use Rattle.checks.specs.declared.refusal.Refusal.{Refusal}
-use Rattle.policy.specs.Answers.{recordRefusal, recordOf, recordAnswer, shownOf, shownRecord}
+use Rattle.rule_records.specs.Answers.{recordRefusal, recordOf, recordAnswer, shownOf, shownRecord}
 use Rattle.decision.specs.Answers.{partOf, showAnswer, shownPart}
 use Rattle.decision.specs.declared.ShowAnswer.{ShowAnswer}
 use Rattle.decision.specs.declared.ShowAnswer.the-variants.{Refused, NoRule, FromTable, FromPolicy}

@@ -5,7 +5,7 @@ use mathlib.Core.List.{List, []}
 use Prim.Native.Nat.{ℕ}
 use lib.Dec.{eqb}
 use Rattle.buffers.specs.Parts.{part}
-use Rattle.policy.specs.Answers.{recordAnswer, shownRecord}
+use Rattle.rule_records.specs.Answers.{recordAnswer, shownRecord}
 use Rattle.decision.specs.Answers.{showAnswer, shownPart}
 use Rattle.part_answers.specs.Parts.{recordNumbers, shownNumbers}
 use Rattle.answers.specs.declared.structs.WgPart.{WgPart}

@@ -2,7 +2,7 @@
 use borrow.Author.Needs.{needs}
 use mathlib.Core.Path.{sym, _∙_}
 use native.Mathlib.Omega.{arith}
-use Rattle.policy.proofs.RecordShown.{record-shown, shown-below}
+use Rattle.rule_records.proofs.RecordShown.{record-shown, shown-below}
 use Rattle.part_answers.proofs.record_numbers.Statement.{statement}
 use Rattle.part_answers.proofs.record_numbers.Tie as tie
 

@@ -8,9 +8,9 @@ use borrow.Author.Tests.{ltb-true}
 use Rattle.ternary.specs.Sizes.{keySize}
 use Rattle.records.specs.Rules.{ruleCount}
 use Rattle.checks.specs.declared.refusal.Refusal.{Refusal}
 use Rattle.policy.specs.Refusals.{policyRefusal}
-use Rattle.policy.specs.Answers.{recordRefusal, recordOf, recordAnswer}
-use Rattle.policy.specs.declared.RecordAnswer.the-variants.{Refused, Shown}
+use Rattle.rule_records.specs.Answers.{recordRefusal, recordOf, recordAnswer}
+use Rattle.rule_records.specs.declared.RecordAnswer.the-variants.{Refused, Shown}
 use Rattle.checks.proofs.RefusalLaws.{none-first, need-none}
 
 of-refused : (o : Option Refusal) (r : Refusal) → Refused r ≡ recordOf o → o ≡ some r

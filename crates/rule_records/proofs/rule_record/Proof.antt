@@ -1,4 +1,4 @@
--- `policy::rule_record` meets its contract: a record that is shown is one of the policy, whose part is lent. Assumes nothing.
+-- `rule_records::rule_record` meets its contract: a record that is shown is one of the policy, whose part is lent. Assumes nothing.
 use borrow.Author.Needs.{needs}
 use mathlib.Core.Path.{_≡_, sym, _∙_}
 use mathlib.Core.Option.{none}
@@ -7,10 +7,10 @@ use native.Mathlib.Omega.{arith}
 use native.Mathlib.Nat.{add-sub-cancel-left}
 use Rattle.ternary.specs.Sizes.{keySize}
 use Rattle.records.specs.Rules.{ruleCount}
-use Rattle.policy.specs.Answers.{recordRefusal, shownRecord}
-use Rattle.policy.proofs.RecordShown.{record-refused, record-shown, shown-below}
-use Rattle.policy.proofs.rule_record.Statement.{statement}
-use Rattle.policy.proofs.rule_record.Tie as tie
+use Rattle.rule_records.specs.Answers.{recordRefusal, shownRecord}
+use Rattle.rule_records.proofs.RecordShown.{record-refused, record-shown, shown-below}
+use Rattle.rule_records.proofs.rule_record.Statement.{statement}
+use Rattle.rule_records.proofs.rule_record.Tie as tie
 
 -- the record is shown
 shown : (c : tie.After-enum-told2) → let a = c .before .before .before .before .args in recordRefusal (a .policy .now) (a .number) ≡ none

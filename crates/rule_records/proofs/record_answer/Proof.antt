@@ -1,12 +1,13 @@
--- `policy::record_answer` meets its contract: at each answer the tests that led there say which it is. Assumes nothing.
+-- `rule_records::record_answer` meets its contract: at each answer the tests that led there say which it is. Assumes nothing.
 use borrow.Author.Needs.{needs}
 use mathlib.Core.Path.{_≡_, sym, _∙_}
 use borrow.Author.Tests.{lt-ltb, le-ltb}
-use Rattle.policy.specs.Answers.{checkAnswer, recordRefusal, recordAnswer}
+use Rattle.policy.specs.Answers.{checkAnswer}
 use Rattle.policy.specs.declared.PolicyAnswer.the-variants.{Rules}
 use Rattle.policy.proofs.CheckLaws.{check-refused, check-passed, check-count}
-use Rattle.policy.proofs.record_answer.Statement.{statement}
-use Rattle.policy.proofs.record_answer.Tie as tie
+use Rattle.rule_records.specs.Answers.{recordRefusal, recordAnswer}
+use Rattle.rule_records.proofs.record_answer.Statement.{statement}
+use Rattle.rule_records.proofs.record_answer.Tie as tie
 
 returns : tie.Need-returns
 unfolding recordAnswer recordRefusal

@@ -1,0 +1,2 @@
+-- What the answer on a record tells its callers.
+pub mod RecordShown

@@ -1,0 +1,2 @@
+-- What is answered about a rule's record.
+pub mod Answers
