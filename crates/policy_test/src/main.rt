@@ -115,7 +115,7 @@ fn ask_overlap(policy: &[u8], a: usize, b: usize) {
     if b >= n {
         return;
     }
-    if ternary::overlap(pattern(policy, a), pattern(policy, b)) {
+    if patterns::overlap(pattern(policy, a), pattern(policy, b)) {
         say(b" overlap");
     } else {
         say(b" apart");

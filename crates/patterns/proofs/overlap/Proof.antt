@@ -1,8 +1,8 @@
--- `ternary::overlap` meets its contract: its rows are of one length. Assumes nothing.
+-- `patterns::overlap` meets its contract: its rows are of one length. Assumes nothing.
 use borrow.Author.Needs.{needs}
 use Rattle.ternary.proofs.RowLengths.{same-long, overlap-long}
-use Rattle.ternary.proofs.overlap.Statement.{statement}
-use Rattle.ternary.proofs.overlap.Tie as tie
+use Rattle.patterns.proofs.overlap.Statement.{statement}
+use Rattle.patterns.proofs.overlap.Tie as tie
 
 overlap-rows-requires : tie.Need-overlap-rows-requires
 overlap-rows-requires c κs = search (needs, same-long)

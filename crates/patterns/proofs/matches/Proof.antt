@@ -1,8 +1,8 @@
--- `ternary::matches` meets its contract: its rows are of one length. Assumes nothing.
+-- `patterns::matches` meets its contract: its rows are of one length. Assumes nothing.
 use borrow.Author.Needs.{needs}
 use Rattle.ternary.proofs.RowLengths.{same-long, matches-long}
-use Rattle.ternary.proofs.matches.Statement.{statement}
-use Rattle.ternary.proofs.matches.Tie as tie
+use Rattle.patterns.proofs.matches.Statement.{statement}
+use Rattle.patterns.proofs.matches.Tie as tie
 
 matches-row-requires : tie.Need-matches-row-requires
 matches-row-requires c κs = search (needs, same-long)
