@@ -20,9 +20,10 @@ use Rattle.slots.specs.Slots.{slotCount, slots}
 use Rattle.slots.specs.Refusals.{slotsRefusal, WholeSlots}
 use Rattle.slots.proofs.SlotLaws.{slot-count, slot-at, slots-spell}
 use Rattle.slots.proofs.FitLaws.{slots-accepted}
+use Rattle.hits.specs.Hits.{Counted}
 use Rattle.messages.specs.Reports.{encodeReport}
 use Rattle.policy.specs.Refusals.{keyRefusal}
-use Rattle.table.specs.Lookups.{roomRefusal, lookupRefusal, foundOf, findAnswer, Counted}
+use Rattle.table.specs.Lookups.{roomRefusal, lookupRefusal, foundOf, findAnswer}
 use Rattle.table.specs.Lookups.{lookupAnswer, slotsAfterLookup, tableAfterLookup, outAfterLookup, LookedUp}
 use Rattle.table.specs.declared.lookup.Found.the-variants.{Refused as FoundRefused, Miss as FoundMiss, Slot as FoundSlot}
 use Rattle.table.specs.declared.lookup.LookupAnswer.the-variants.{Refused, Miss, Hit}

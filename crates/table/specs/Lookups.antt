@@ -7,13 +7,13 @@ use lib.Dec.{leb}
 use lib.ListN.{length}
 use Rattle.model.specs.Records.{Slot}
 use Rattle.model.specs.Refusals.{shortOutput}
-use Rattle.model.specs.Ends.{Hit, counted, firstFor, lookup, afterLookup}
+use Rattle.model.specs.Ends.{Hit, firstFor, lookup, afterLookup}
 use Rattle.ternary.specs.Sizes.{keySize, positions}
 use Rattle.buffers.specs.Parts.{splice, spelled}
 use Rattle.records.specs.Layout.{reportSize}
 use Rattle.checks.specs.Refusals.{orElse, need, unlessRefused}
 use Rattle.checks.specs.declared.refusal.Refusal.{Refusal}
-use Rattle.slots.specs.Slots.{encodeSlot, slotIn, slots, SlotPut}
+use Rattle.slots.specs.Slots.{encodeSlot, slots}
 use Rattle.slots.specs.Refusals.{slotsRefusal, WholeSlots}
 use Rattle.messages.specs.Reports.{encodeReport}
 use Rattle.policy.specs.Refusals.{keyRefusal}
@@ -51,11 +51,6 @@ foundOf none (some i) = FoundSlot i
 
 unfoldable pub findAnswer : List ℕ → List ℕ → ℕ → Found
 findAnswer key table room = foundOf (lookupRefusal key table room) (firstFor positions (slots keySize table) key)
-
--- a hit counted in the i-th slot, which then is x
-pub record Counted (table : List ℕ) (i : ℕ) (x : Slot) (after : List ℕ) : Type 0 where
-  pub slot : x ≡ counted (slotIn keySize table i)
-  pub put : SlotPut keySize table i x after
 
 -- ---- the call
 

@@ -1,3 +1,2 @@
 // The table looks a key up.
-mod hit;
 pub mod lookup;

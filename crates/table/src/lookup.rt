@@ -58,7 +58,7 @@ pub fn lookup(key: &[u8], table: &mut [u8], out: &mut [u8]) -> LookupAnswer
         Found::Refused(refusal) => LookupAnswer::Refused(refusal),
         Found::Miss => LookupAnswer::Miss,
         Found::Slot(i) => {
-            let x = crate::hit::count(table, i);
+            let x = hits::count(table, i);
             let report = messages::report::Report {
                 slot: i as u16,
                 sequence: x.sequence,

@@ -1,4 +1,4 @@
--- `table::hit::count` meets its contract: the slot that was read, counted, differs from it in its hits alone. Assumes nothing.
+-- `hits::count` meets its contract: the slot that was read, counted, differs from it in its hits alone. Assumes nothing.
 use borrow.Author.Needs.{needs}
 use mathlib.Core.Path.{_≡_, sym, ap, _∙_}
 use Prim.Native.Nat.{_+_, _*_}
@@ -14,8 +14,8 @@ use Rattle.slots.specs.Slots.{SlotFits, slotIn, slots, putSlot}
 use Rattle.slots.specs.Structs.{asSlot}
 use Rattle.slots.proofs.SlotLaws.{slots-put}
 use Rattle.slots.proofs.ByteSlots.{slot-byte, counted-byte, put-hits}
-use Rattle.table.proofs.hit.count.Statement.{statement}
-use Rattle.table.proofs.hit.count.Tie as tie
+use Rattle.hits.proofs.count.Statement.{statement}
+use Rattle.hits.proofs.count.Tie as tie
 
 returns : tie.Need-returns
 returns c =

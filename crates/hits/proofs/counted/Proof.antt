@@ -1,11 +1,11 @@
--- `table::hit::counted` meets its contract: hits at the top stay, and others rise by 1. Assumes nothing.
+-- `hits::counted` meets its contract: hits at the top stay, and others rise by 1. Assumes nothing.
 use borrow.Author.Needs.{needs}
 use mathlib.Core.Path.{_≡_}
 use Prim.Native.Nat.{_+_, min}
 use native.Mathlib.Omega.{arith}
 use Rattle.model.specs.Ends.{top}
-use Rattle.table.proofs.hit.counted.Statement.{statement}
-use Rattle.table.proofs.hit.counted.Tie as tie
+use Rattle.hits.proofs.counted.Statement.{statement}
+use Rattle.hits.proofs.counted.Tie as tie
 
 returns : tie.Need-returns
 returns c =

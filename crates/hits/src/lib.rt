@@ -7,7 +7,7 @@ ghost use Rattle.model.specs.Ends.{counted as oneMore};
 ghost use Rattle.ternary.specs.Sizes.{keySize};
 ghost use Rattle.slots.specs.Slots.{slotCount};
 ghost use Rattle.slots.specs.Structs.{asSlot};
-ghost use Rattle.table.specs.Lookups.{Counted};
+ghost use Rattle.hits.specs.Hits.{Counted};
 
 // A slot's hits stay here once there.
 const MOST_HITS: u32 = 4294967295;
