@@ -1,5 +1,5 @@
--- A report at the keeper: what its tests come to, and what taking it does. Assumes nothing.
-use mathlib.Core.Path.{_≡_, refl, sym, _∙_}
+-- A report at the keeper: what its tests come to. Assumes nothing.
+use mathlib.Core.Path.{_≡_, refl}
 use mathlib.Core.Bool.{Bool, true, false, not}
 use mathlib.Core.List.{List}
 use mathlib.Core.Logic.{_≢_}
@@ -9,22 +9,24 @@ use native.Mathlib.Omega.{arith}
 use lib.Dec.{leb, eqb}
 use lib.ListN.{length, getD}
 use borrow.Author.Tests.{eqb-true, eq-eqb, ne-eqb, leb-false, le-leb, lt-leb, lt-ltb, le-ltb}
-use Rattle.model.specs.Records.{Slot, Report, slotAt}
-use Rattle.model.specs.Ends.{refuse, reportRefusal, isCurrent, confirmed, afterReport}
+use Rattle.model.specs.Records.{Slot, Report}
+use Rattle.model.specs.Ends.{refuse, reportRefusal}
 use Rattle.model.specs.Refusals.{ragged, wrongKind, badRecord, noSuchSlot, sequenceZero, reportAhead}
 use Rattle.ternary.specs.Sizes.{keySize}
 use Rattle.records.specs.Layout.{reportKind, reportZero, reportSize, isReport}
 use Rattle.checks.specs.Refusals.{need}
 use Rattle.checks.specs.Flaws.{isFlawed, reportFlaw}
 use Rattle.checks.specs.declared.refusal.Refusal.{Refusal}
-use Rattle.slots.specs.Slots.{slotCount, slotIn, slots, SlotPut}
+use Rattle.slots.specs.Slots.{slotCount, slotIn, slots}
 use Rattle.slots.specs.Refusals.{slotsRefusal, WholeSlots}
-use Rattle.slots.proofs.SlotLaws.{slot-count, slot-at}
+use Rattle.slots.proofs.SlotLaws.{slot-count}
 use Rattle.slots.proofs.FitLaws.{slots-accepted}
 use Rattle.checks.proofs.CleanLaws.{report-clean}
 use Rattle.messages.specs.Reports.{decodeReport}
 use Rattle.checks.proofs.RefusalLaws.{none-first, need-none}
-use Rattle.keeper.specs.Reports.{numbered, bytesRefusal, reportRefused, answerOf, reportAnswer, reportBytes, ReportTaken, Reported}
+use Rattle.settling.specs.Settling.{ReportTaken}
+use Rattle.settling.proofs.SettlingLaws.{there}
+use Rattle.keeper.specs.Reports.{numbered, bytesRefusal, reportRefused, answerOf, reportAnswer, Reported}
 use Rattle.keeper.specs.declared.ReportAnswer.{ReportAnswer}
 use Rattle.keeper.specs.declared.ReportAnswer.the-variants.{Refused, Taken}
 
@@ -68,31 +70,13 @@ module _ (keeper : List ℕ) (x : Report) where
     no-sequence z t = rw (inside, eq-eqb (x .sequence) 0 z) t
 
     module _ {old : Slot} (is : old ≡ slotIn keySize keeper i) where
-      there : slotAt k (x .slot) ≡ old
-      there = rw (← e) (slot-at keySize keeper i l ∙ sym is)
-
       pub too-new : {r : ReportAnswer} → x .sequence ≢ 0 → old .sequence < x .sequence → Told r (some reportAhead)
       unfolding reportRefusal
-      too-new n m t = rw (inside, ne-eqb (x .sequence) 0 n, there, lt-ltb (old .sequence) (x .sequence) m) t
+      too-new n m t = rw (inside, ne-eqb (x .sequence) 0 n, there keeper x e l is, lt-ltb (old .sequence) (x .sequence) m) t
 
       pub in-time : {r : ReportAnswer} → x .sequence ≢ 0 → x .sequence ≤ old .sequence → Told r none
       unfolding reportRefusal
-      in-time n m t = rw (inside, ne-eqb (x .sequence) 0 n, there, le-ltb (old .sequence) (x .sequence) m) t
-
-      -- ---- what taking it does
-
-      pub taken-current : {y : Slot} {keeper′ : List ℕ} → x .sequence ≡ old .sequence → y ≡ confirmed old (x .hits)
-          → SlotPut keySize keeper i y keeper′ → ReportTaken keeper x keeper′
-      unfolding reportBytes afterReport
-      taken-current s c put =
-          let t : isCurrent k x ≡ true = rw there (eq-eqb (x .sequence) (old .sequence) s) in
-          record { bytes = rw (t, there, ← c, ← e) (put .bytes); meaning = rw (t, there, ← c, ← e) (put .meaning) }
-
-      pub taken-older : x .sequence ≢ old .sequence → ReportTaken keeper x keeper
-      unfolding reportBytes afterReport
-      taken-older s =
-          let t : isCurrent k x ≡ false = rw there (ne-eqb (x .sequence) (old .sequence) s) in
-          record { bytes = rw t; meaning = rw t }
+      in-time n m t = rw (inside, ne-eqb (x .sequence) 0 n, there keeper x e l is, le-ltb (old .sequence) (x .sequence) m) t
 
 -- ---- the whole call
 

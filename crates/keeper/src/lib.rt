@@ -17,6 +17,6 @@ pub fn report(keeper: &mut [u8], message: &[u8]) -> ReportAnswer
     if let ReportAnswer::Refused(refusal) = reports::may_report(keeper, message) {
         return ReportAnswer::Refused(refusal);
     }
-    reports::take_report(keeper, messages::report::report_of(message));
+    settling::take_report(keeper, messages::report::report_of(message));
     ReportAnswer::Taken
 }

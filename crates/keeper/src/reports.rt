@@ -1,4 +1,4 @@
-// Reports that arrive at the keeper: how they are refused, and what they change.
+// Reports that arrive at the keeper: how they are refused.
 use crate::ReportAnswer;
 use checks::flaw::Flaw;
 use checks::refusal;
@@ -6,17 +6,14 @@ use checks::refusal::Refusal;
 use messages::report::Report;
 use numbers::wide;
 use records::layout;
-use slots::slot::Slot;
 ghost use mathlib.Core.Path.{_≡_};
 ghost use mathlib.Core.Option.{some};
-ghost use Prim.Native.Nat.{_<_};
-ghost use Rattle.model.specs.Ends.{reportRefusal, confirmed};
+ghost use Rattle.model.specs.Ends.{reportRefusal};
 ghost use Rattle.ternary.specs.Sizes.{keySize};
 ghost use Rattle.checks.specs.Refusals.{refusal as refusalAt};
-ghost use Rattle.slots.specs.Slots.{slotCount, slots};
-ghost use Rattle.slots.specs.Structs.{asSlot};
+ghost use Rattle.slots.specs.Slots.{slots};
 ghost use Rattle.messages.specs.Structs.{asReport};
-ghost use Rattle.keeper.specs.Reports.{answerOf, numbered, bytesRefusal, reportAnswer, ReportTaken};
+ghost use Rattle.keeper.specs.Reports.{answerOf, numbered, bytesRefusal, reportAnswer};
 
 // The refusal of that number, at place 0.
 fn refused(number: u32) -> ReportAnswer
@@ -70,35 +67,5 @@ pub fn may_report(keeper: &[u8], message: &[u8]) -> ReportAnswer
     match check_bytes(message) {
         ReportAnswer::Refused(r) => ReportAnswer::Refused(r),
         ReportAnswer::Taken => check_slot(keeper, messages::report::report_of(message)),
-    }
-}
-
-// The slot once its hits are confirmed: settled, with the larger number of hits.
-fn confirmed_slot(old: Slot, hits: u32) -> Slot
-    ensures { λ r. ⌜ asSlot r ≡ confirmed (asSlot old) hits ⌝ }
-{
-    let value = old.value;
-    let mask = old.mask;
-    Slot {
-        sequence: old.sequence,
-        hits: room::larger(old.hits, hits),
-        value,
-        mask,
-        action: old.action,
-        rule: old.rule,
-        settled: 1,
-        spare: old.spare,
-    }
-}
-
-// Takes a report: it settles the slot where it has the slot's sequence, and changes nothing where its sequence is older.
-pub fn take_report(keeper: &mut [u8], x: Report)
-    requires { ⌜ x .slot < slotCount keySize (now keeper) ⌝ }
-    ensures { λ _. ⌜ ReportTaken (now (keeper .entry)) (asReport x) (now (keeper .exit)) ⌝ }
-{
-    let i = wide(x.slot);
-    let old = slots::slot::slot_at(keeper, i);
-    if x.sequence == old.sequence {
-        slots::slot::put_slot(keeper, i, confirmed_slot(old, x.hits));
     }
 }

@@ -29,7 +29,8 @@ use Rattle.policy.specs.Refusals.{policyRefusal, keyRefusal}
 use Rattle.policy.specs.Answers.{bestRefusal}
 use Rattle.policy.proofs.Acceptance.{accepted-bytes}
 use Rattle.received.proofs.AfterLaws.{after-lookup, after-write}
-use Rattle.keeper.specs.Reports.{reportRefused, reportAnswer, reportBytes}
+use Rattle.settling.specs.Settling.{reportBytes}
+use Rattle.keeper.specs.Reports.{reportRefused, reportAnswer}
 use Rattle.keeper.proofs.ReportLaws.{accepted-of}
 use Rattle.verdict.specs.Decisions.{missIn}
 use Rattle.miss.specs.Answers.{partsRefusal, missRefused, missBytes}

@@ -27,7 +27,8 @@ use Rattle.slots.proofs.ByteSlots.{ByteSlot, confirmed-byte, put-bytes}
 use Rattle.messages.specs.Writes.{decodeWrite}
 use Rattle.messages.specs.Reports.{decodeReport}
 use Rattle.policy.specs.Refusals.{AcceptedBytes}
-use Rattle.keeper.specs.Reports.{reportRefused, reportAnswer, reportBytes, Reported}
+use Rattle.settling.specs.Settling.{reportBytes}
+use Rattle.keeper.specs.Reports.{reportRefused, reportAnswer, Reported}
 use Rattle.keeper.specs.declared.ReportAnswer.{ReportAnswer}
 use Rattle.keeper.proofs.ReportLaws.{not-refused, accepted-of, report-meaning}
 use Rattle.outcomes.specs.Outcomes.{givesWrite}

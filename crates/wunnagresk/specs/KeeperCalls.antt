@@ -10,7 +10,8 @@ use Rattle.slots.specs.Slots.{slots}
 use Rattle.messages.specs.Reports.{decodeReport}
 use Rattle.numbers.specs.Written.{numberBytes, outOf}
 use Rattle.checks.specs.Refusals.{unlessRefused}
-use Rattle.keeper.specs.Reports.{reportRefused, reportAnswer, reportBytes}
+use Rattle.settling.specs.Settling.{reportBytes}
+use Rattle.keeper.specs.Reports.{reportRefused, reportAnswer}
 use Rattle.open_slots.specs.Opens.{openIn, openRefusal, answerOf as openOf}
 use Rattle.verdict.specs.Decisions.{deciding, missIn}
 use Rattle.miss.specs.Answers.{missRefused, missBytes, outWith, answerOf as missAnswerOf}

@@ -1,8 +1,8 @@
--- `keeper::reports::take_report` meets its contract: the slot is confirmed where the sequences are equal. Assumes nothing.
+-- `settling::take_report` meets its contract: the slot is confirmed where the sequences are equal. Assumes nothing.
 use borrow.Author.Needs.{needs}
-use Rattle.keeper.proofs.ReportLaws.{taken-current, taken-older}
-use Rattle.keeper.proofs.reports.take_report.Statement.{statement}
-use Rattle.keeper.proofs.reports.take_report.Tie as tie
+use Rattle.settling.proofs.SettlingLaws.{taken-current, taken-older}
+use Rattle.settling.proofs.take_report.Statement.{statement}
+use Rattle.settling.proofs.take_report.Tie as tie
 
 returns : tie.Need-returns
 returns c =

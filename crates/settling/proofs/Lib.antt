@@ -1,0 +1,2 @@
+-- Laws of taking a report.
+pub mod SettlingLaws

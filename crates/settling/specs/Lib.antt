@@ -1,0 +1,2 @@
+-- What a report that is taken changes in the keeper's buffer.
+pub mod Settling
