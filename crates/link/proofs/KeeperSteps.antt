@@ -32,7 +32,8 @@ use Rattle.keeper.specs.Reports.{reportRefused, reportAnswer, Reported}
 use Rattle.keeper.specs.declared.ReportAnswer.{ReportAnswer}
 use Rattle.keeper.proofs.ReportLaws.{not-refused, accepted-of, report-meaning}
 use Rattle.outcomes.specs.Outcomes.{givesWrite}
-use Rattle.verdict.specs.Decisions.{deciding, missIn}
+use Rattle.decisions.specs.Decided.{deciding}
+use Rattle.verdict.specs.Decisions.{missIn}
 use Rattle.miss.specs.Answers.{partsRefusal, roomRefusal, missRefused, asStruct, missBytes, outWith, Missed}
 use Rattle.miss.specs.declared.MissAnswer.{MissAnswer}
 use Rattle.miss.specs.declared.MissAnswer.the-variants.{Outcome}

@@ -28,7 +28,7 @@ use Rattle.slots.specs.Refusals.{WholeSlots}
 use Rattle.slots.proofs.ByteSlots.{ByteSlot}
 use Rattle.slots.proofs.SlotBytes.{ByteSlots}
 use Rattle.policy.specs.Refusals.{AcceptedBytes}
-use Rattle.verdict.specs.Decisions.{deciding}
+use Rattle.decisions.specs.Decided.{deciding}
 use Rattle.link.proofs.MessageBytes.{ByteWrite}
 
 -- ---- the slots of an end

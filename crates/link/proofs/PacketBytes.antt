@@ -16,7 +16,7 @@ use Rattle.ternary.specs.Sizes.{keySize, positions}
 use Rattle.slots.proofs.ByteSlots.{ByteSlot, with-byte, counted-byte, confirmed-byte}
 use Rattle.slots.proofs.SlotBytes.{ByteSlots, set-byte, hits-low}
 use Rattle.policy.specs.Refusals.{AcceptedBytes}
-use Rattle.verdict.specs.Decisions.{deciding}
+use Rattle.decisions.specs.Decided.{deciding}
 use Rattle.link.proofs.MissBytes.{MissFits, miss-fits}
 
 -- so many slots at each end, all of which bytes can hold

@@ -42,7 +42,7 @@ use Rattle.open_slots.specs.Opens.{openIn, openRefusal, Opened}
 use Rattle.open_slots.specs.declared.OpenAnswer.the-variants.{Count}
 use Rattle.keeper.proofs.ReportLaws.{report-meaning}
 use Rattle.open_slots.proofs.OpenLaws.{list-few}
-use Rattle.verdict.specs.Decisions.{deciding}
+use Rattle.decisions.specs.Decided.{deciding}
 use Rattle.link.specs.Calls.{State, clearedEnds, Call, after, Sequence, Throughout}
 use Rattle.link.specs.AnyCall.{AnyCall, AnyCallPromise}
 use Rattle.link.specs.RunPromise.{QuietRuns, RunPromise}

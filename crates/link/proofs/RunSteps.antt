@@ -16,7 +16,7 @@ use Rattle.checks.specs.declared.refusal.Refusal.{Refusal}
 use Rattle.slots.specs.Slots.{encodeSlot}
 use Rattle.slots.proofs.SlotBytes.{ByteSlots, spelled-long, spelled-bytes}
 use Rattle.policy.specs.Refusals.{AcceptedBytes}
-use Rattle.verdict.specs.Decisions.{deciding}
+use Rattle.decisions.specs.Decided.{deciding}
 use Rattle.packet.specs.Packets.{endsIn}
 use Rattle.run_refusals.specs.Refusals.{runRefusal}
 use Rattle.trace.specs.Runs.{endsOf, Shown, runOf, RunIs}

@@ -8,7 +8,7 @@ use Rattle.policy.specs.Refusals.{AcceptedBytes}
 use Rattle.table.specs.Lookups.{lookupRefusal}
 use Rattle.received.specs.Writes.{writeCallRefusal}
 use Rattle.keeper.specs.Reports.{reportRefused}
-use Rattle.verdict.specs.Decisions.{deciding}
+use Rattle.decisions.specs.Decided.{deciding}
 use Rattle.miss.specs.Answers.{missRefused}
 use Rattle.run_refusals.specs.Refusals.{runRefusal}
 use Rattle.link.specs.Calls.{State, Call, lookup, write, miss, report, openSlots, run, Promised, Linked, after}

@@ -11,7 +11,7 @@ use Rattle.ternary.specs.Sizes.{keySize, positions}
 use Rattle.records.specs.Layout.{mostSlots}
 use Rattle.records.specs.Traces.{packetCount, keyIn, keys}
 use Rattle.policy.specs.Refusals.{policyRefusal}
-use Rattle.verdict.specs.Decisions.{deciding}
+use Rattle.decisions.specs.Decided.{deciding}
 use Rattle.steps.specs.Steps.{endsAfter}
 use Rattle.link.specs.Calls.{State, clearedEnds, Call, Sequence, Throughout}
 

@@ -30,10 +30,11 @@ use Rattle.policy.specs.Answers.{checkAnswer, bestRefusal}
 use Rattle.policy.specs.declared.PolicyAnswer.{PolicyAnswer}
 use Rattle.policy.specs.declared.PolicyAnswer.the-variants.{Refused as BadPolicy, Rules}
 use Rattle.policy.proofs.CheckLaws.{check-refused, check-passed, passed-few}
-use Rattle.verdict.specs.Decisions.{Fine, deciding, DecidedAs}
+use Rattle.decisions.specs.Decided.{deciding, DecidedAs}
+use Rattle.verdict.specs.Decisions.{Fine}
 use Rattle.miss.specs.Answers.{partsRefusal, checkedOf, roomRefusal, missRefused, answerOf, outWith, MissedAs, OnMiss, Missed}
 use Rattle.miss.specs.Answers.{placesEntry, EntryPlaced, CarriedOut}
-use Rattle.verdict.specs.declared.Decision.{Decision}
+use Rattle.decisions.specs.declared.Decision.{Decision}
 use Rattle.miss.specs.declared.Parts.{Parts}
 use Rattle.miss.specs.declared.Parts.the-variants.{Refused as PartRefused, Fine as PartsFine}
 use Rattle.miss.specs.declared.MissAnswer.{MissAnswer}

@@ -22,8 +22,9 @@ use Rattle.messages.specs.Structs.{asWrite}
 use Rattle.outcomes.specs.Outcomes.{asOutcome, givesWrite}
 use Rattle.outcomes.specs.declared.Outcome.{Outcome as OutcomeStruct}
 use Rattle.policy.specs.Answers.{bestRefusal}
-use Rattle.verdict.specs.Decisions.{deciding, missIn}
-use Rattle.verdict.specs.declared.Decision.{Decision}
+use Rattle.decisions.specs.Decided.{deciding}
+use Rattle.verdict.specs.Decisions.{missIn}
+use Rattle.decisions.specs.declared.Decision.{Decision}
 use Rattle.miss.specs.declared.Parts.{Parts}
 use Rattle.miss.specs.declared.Parts.the-variants.{Refused as PartRefused, Fine}
 use Rattle.miss.specs.declared.MissAnswer.{MissAnswer}

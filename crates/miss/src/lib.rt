@@ -1,10 +1,10 @@
 // A miss arrives at the keeper: what it comes to, and the write that is given.
 use checks::refusal;
 use checks::refusal::Refusal;
+use decisions::Decision;
 use messages::write::Write;
 use outcomes::Outcome;
 use records::layout;
-use verdict::Decision;
 ghost use mathlib.Core.Path.{_≡_};
 ghost use mathlib.Core.Bool.{true};
 ghost use Prim.Native.Nat.{_<_};

@@ -12,10 +12,11 @@ use Rattle.ternary.specs.Sizes.{keySize}
 use Rattle.slots.specs.Slots.{slots}
 use Rattle.messages.specs.Structs.{asWrite}
 use Rattle.outcomes.specs.Outcomes.{asOutcome, givesWrite}
-use Rattle.verdict.specs.Decisions.{deciding, missIn, DecidedAs}
+use Rattle.decisions.specs.Decided.{deciding, DecidedAs}
+use Rattle.verdict.specs.Decisions.{missIn}
 use Rattle.miss.specs.Answers.{EntryPlaced}
 use Rattle.miss.proofs.OutcomeLaws.{none-quiet, full-quiet, again-given, entry-given}
-use Rattle.verdict.specs.declared.Decision.{Decision}
+use Rattle.decisions.specs.declared.Decision.{Decision}
 use Rattle.packet.specs.Packets.{endsIn, Became, sentEnds, missedOutcome, missedEnds}
 
 module _ (policy keeper : List ℕ) (d : Decision) where

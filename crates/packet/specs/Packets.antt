@@ -8,7 +8,8 @@ use Rattle.model.specs.Trace.{Ends, writtenTo, sentTo, onePacket, missOutcome, 
 use Rattle.ternary.specs.Sizes.{keySize, positions}
 use Rattle.slots.specs.Slots.{slots}
 use Rattle.slots.specs.Refusals.{WholeSlots}
-use Rattle.verdict.specs.Decisions.{Fine, deciding, missIn}
+use Rattle.decisions.specs.Decided.{deciding}
+use Rattle.verdict.specs.Decisions.{Fine, missIn}
 
 -- the two ends that the buffers hold
 abbrev pub endsIn : List ℕ → List ℕ → Ends

@@ -21,7 +21,7 @@ use Rattle.checks.specs.declared.refusal.Refusal.{Refusal}
 use Rattle.slots.specs.Slots.{encodeSlot}
 use Rattle.outcomes.specs.Outcomes.{decodeOutcome, encodeOutcome}
 use Rattle.outcomes.proofs.OutcomeLaws.{length-outcome}
-use Rattle.verdict.specs.Decisions.{deciding}
+use Rattle.decisions.specs.Decided.{deciding}
 use Rattle.packet.specs.Packets.{endsIn}
 use Rattle.run_refusals.specs.Refusals.{runRefusal}
 use Rattle.trace.specs.Runs.{outcomesOf, endsOf, Shown, shownOf, runOf, endsLeft}

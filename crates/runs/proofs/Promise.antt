@@ -16,7 +16,7 @@ use Rattle.records.specs.Layout.{traceSize}
 use Rattle.records.specs.Traces.{packetCount, keys, decodeTrace}
 use Rattle.slots.specs.Slots.{encodeSlot}
 use Rattle.outcomes.specs.Outcomes.{encodeOutcome}
-use Rattle.verdict.specs.Decisions.{deciding}
+use Rattle.decisions.specs.Decided.{deciding}
 use Rattle.packet.specs.Packets.{endsIn}
 use Rattle.trace.proofs.RunLaws.{run-whole}
 use Rattle.trace.specs.declared.RunAnswer.{RunAnswer}

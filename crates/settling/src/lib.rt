@@ -1,6 +1,6 @@
 // A report that is taken settles its slot at the keeper.
-use cover::numbers::wide;
 use messages::report::Report;
+use numbers::wide;
 use slots::slot::Slot;
 ghost use mathlib.Core.Path.{_≡_};
 ghost use Prim.Native.Nat.{_<_};

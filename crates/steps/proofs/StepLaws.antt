@@ -22,7 +22,7 @@ use Rattle.outcomes.specs.Outcomes.{encodeOutcome}
 use Rattle.outcomes.proofs.OutcomeLaws.{length-outcome}
 use Rattle.totals.specs.Sums.{mostTotal, AtMost}
 use Rattle.totals.proofs.SumLaws.{after-most}
-use Rattle.verdict.specs.Decisions.{deciding}
+use Rattle.decisions.specs.Decided.{deciding}
 use Rattle.packet.specs.Packets.{endsIn, FinePacket, Became, packetOutcome, packetEnds}
 use Rattle.packet.proofs.SentLaws.{as-whole}
 use Rattle.steps.specs.Steps.{RunFits, Stepped, toldBy, endsAfter, RanOver}

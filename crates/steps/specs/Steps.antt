@@ -14,7 +14,7 @@ use Rattle.records.specs.Rules.{ruleCount}
 use Rattle.records.specs.Traces.{packetCount}
 use Rattle.slots.specs.Refusals.{WholeSlots}
 use Rattle.outcomes.specs.Outcomes.{encodeOutcome}
-use Rattle.verdict.specs.Decisions.{deciding}
+use Rattle.decisions.specs.Decided.{deciding}
 use Rattle.packet.specs.Packets.{endsIn, packetOutcome, packetEnds}
 
 -- the buffers of a run that is not refused

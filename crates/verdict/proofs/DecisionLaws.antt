@@ -7,7 +7,7 @@ use Prim.Native.Nat.{ℕ, suc, _<_}
 use native.Mathlib.Omega.{arith}
 use lib.ListN.{length}
 use borrow.Author.Tests.{eq-eqb, ne-eqb}
-use Rattle.model.specs.Records.{Slot, Write, slotAt, writeFor}
+use Rattle.model.specs.Records.{Slot, Write, writeFor}
 use Rattle.model.specs.Policy.{Rule as PolicyRule, ruleAt, before, ruleMatches, best}
 use Rattle.model.specs.Isolate.{Isolated, isolate}
 use Rattle.model.specs.Ends.{firstFor, top, largest, roomIn, again, onMiss, nextEntry}
@@ -17,12 +17,12 @@ use Rattle.model.proofs.Slots.{found, roomIn-lt}
 use Rattle.ternary.specs.Sizes.{keySize, positions}
 use Rattle.records.specs.Rules.{rules}
 use Rattle.records.proofs.RuleLaws.{rule-count}
-use Rattle.slots.specs.Slots.{slotCount, slotIn, slots}
+use Rattle.slots.specs.Slots.{slotCount, slots}
 use Rattle.slots.specs.Refusals.{WholeSlots}
 use Rattle.holding.specs.Holding.{holdingOf}
 use Rattle.holding.specs.declared.Holding.{Holding}
 use Rattle.holding.specs.declared.Holding.the-variants.{Nowhere, At}
-use Rattle.slots.proofs.SlotLaws.{slot-count, slot-at}
+use Rattle.slots.proofs.SlotLaws.{slot-count}
 use Rattle.holding.proofs.HoldingLaws.{found-nowhere, found-at}
 use Rattle.messages.specs.Structs.{asWrite}
 use Rattle.outcomes.specs.Outcomes.{asOutcome}
@@ -30,41 +30,9 @@ use Rattle.best.specs.Best.{bestFound}
 use Rattle.best.specs.declared.BestFound.{BestFound}
 use Rattle.best.specs.declared.BestFound.the-variants.{NoRule, Rule}
 use Rattle.best.proofs.BestLaws.{found-none, found-rule, found-action, best-below}
-use Rattle.verdict.specs.Decisions.{Fine, RuleFor, deciding, missWith, placeMiss, ruleMiss, missIn, DecidedAs, NoWrite, placedOutcome}
-use Rattle.verdict.specs.declared.Decision.{Decision}
-
--- ---- slot i
-
-module _ (keeper : List ℕ) {i : ℕ} {old : Slot} (l : i < slotCount keySize keeper) (is : old ≡ slotIn keySize keeper i) where
-  abbrev k : List Slot
-  k = slots keySize keeper
-
-  there : slotAt k i ≡ old
-  there = slot-at keySize keeper i l ∙ sym is
-
-  -- its write again
-  pub again-decided : (policy : List ℕ) → DecidedAs policy keeper (again i)
-      (record {
-        outcome = record { outcome = 5; action = old .action; rule = old .rule; slot = i; evicted = nothing };
-        write = record {
-          slot = i;
-          sequence = old .sequence;
-          value = old .value;
-          mask = old .mask;
-          action = old .action;
-          rule = old .rule;
-        };
-      })
-  again-decided policy = record { outcome = rw there; write = rw there; inside = l }
-
-  -- an entry written to it
-  pub placed-empty : {action rule : ℕ} → old .sequence ≡ 0
-      → record { outcome = 2; action = action; rule = rule; slot = i; evicted = nothing } ≡ placedOutcome k i action rule
-  placed-empty e = rw (there, eq-eqb (old .sequence) 0 e)
-
-  pub placed-over : {action rule : ℕ} → old .sequence ≢ 0
-      → record { outcome = 3; action = action; rule = rule; slot = i; evicted = old .rule } ≡ placedOutcome k i action rule
-  placed-over n = rw (there, ne-eqb (old .sequence) 0 n)
+use Rattle.decisions.specs.Decided.{deciding, DecidedAs, NoWrite, placedOutcome}
+use Rattle.decisions.specs.declared.Decision.{Decision}
+use Rattle.verdict.specs.Decisions.{Fine, RuleFor, missWith, placeMiss, ruleMiss, missIn}
 
 -- ---- the rule
 

@@ -13,7 +13,8 @@ use Rattle.checks.specs.Refusals.{unlessRefused}
 use Rattle.settling.specs.Settling.{reportBytes}
 use Rattle.keeper.specs.Reports.{reportRefused, reportAnswer}
 use Rattle.open_slots.specs.Opens.{openIn, openRefusal, answerOf as openOf}
-use Rattle.verdict.specs.Decisions.{deciding, missIn}
+use Rattle.decisions.specs.Decided.{deciding}
+use Rattle.verdict.specs.Decisions.{missIn}
 use Rattle.miss.specs.Answers.{missRefused, missBytes, outWith, answerOf as missAnswerOf}
 use Rattle.miss.specs.declared.MissAnswer.{MissAnswer}
 use Rattle.keeper_answers.specs.Keeper.{outcomeNumbers, reportedNumbers, openedNumbers}

@@ -1,8 +1,8 @@
--- `verdict::write_again` meets its contract: the write has the slot's entry. Assumes nothing.
+-- `decisions::write_again` meets its contract: the write has the slot's entry. Assumes nothing.
 use borrow.Author.Needs.{needs}
-use Rattle.verdict.proofs.DecisionLaws.{again-decided}
-use Rattle.verdict.proofs.write_again.Statement.{statement}
-use Rattle.verdict.proofs.write_again.Tie as tie
+use Rattle.decisions.proofs.DecidedLaws.{again-decided}
+use Rattle.decisions.proofs.write_again.Statement.{statement}
+use Rattle.decisions.proofs.write_again.Tie as tie
 
 returns : tie.Need-returns
 returns c = again-decided _ (search needs) (c .before .before .slot-at .ensures)

@@ -1,8 +1,8 @@
--- `verdict::placed_outcome` meets its contract: 2 where the slot is empty, else 3. Assumes nothing.
+-- `decisions::placed_outcome` meets its contract: 2 where the slot is empty, else 3. Assumes nothing.
 use borrow.Author.Needs.{needs}
-use Rattle.verdict.proofs.DecisionLaws.{placed-empty, placed-over}
-use Rattle.verdict.proofs.placed_outcome.Statement.{statement}
-use Rattle.verdict.proofs.placed_outcome.Tie as tie
+use Rattle.decisions.proofs.DecidedLaws.{placed-empty, placed-over}
+use Rattle.decisions.proofs.placed_outcome.Statement.{statement}
+use Rattle.decisions.proofs.placed_outcome.Tie as tie
 
 returns : tie.Need-returns
 returns c = placed-empty _ (search needs) (c .before .before .slot-at .ensures) (c .if1 .taken)

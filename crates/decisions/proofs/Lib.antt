@@ -1,0 +1,2 @@
+-- Laws of the decisions about one slot.
+pub mod DecidedLaws

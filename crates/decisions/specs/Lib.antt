@@ -1,0 +1,2 @@
+-- A decision on a miss, by value.
+pub mod Decided
