@@ -65,13 +65,13 @@ fn say_write(answer: received::write::WriteAnswer) -> usize {
     }
 }
 
-fn say_miss(answer: miss::MissAnswer) -> usize {
+fn say_miss(answer: carrying::MissAnswer) -> usize {
     match answer {
-        miss::MissAnswer::Refused(r) => {
+        carrying::MissAnswer::Refused(r) => {
             say_refused(r);
             0
         }
-        miss::MissAnswer::Outcome(x) => {
+        carrying::MissAnswer::Outcome(x) => {
             say_outcome(x);
             write_length(x.outcome)
         }

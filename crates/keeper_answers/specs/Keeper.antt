@@ -1,6 +1,6 @@
 -- The numbers of the keeper's answers. Assumes nothing.
-use Rattle.miss.specs.declared.MissAnswer.{MissAnswer}
-use Rattle.miss.specs.declared.MissAnswer.the-variants.{Refused as MissRefused, Outcome}
+use Rattle.carrying.specs.declared.MissAnswer.{MissAnswer}
+use Rattle.carrying.specs.declared.MissAnswer.the-variants.{Refused as MissRefused, Outcome}
 use Rattle.keeper.specs.declared.ReportAnswer.{ReportAnswer}
 use Rattle.keeper.specs.declared.ReportAnswer.the-variants.{Refused as ReportRefused, Taken}
 use Rattle.open_slots.specs.declared.OpenAnswer.{OpenAnswer}

@@ -2,8 +2,8 @@
 use answers::structs::WgCount;
 use answers::structs::WgDone;
 use answers::structs::WgOutcome;
+use carrying::MissAnswer;
 use keeper::ReportAnswer;
-use miss::MissAnswer;
 use open_slots::OpenAnswer;
 ghost use mathlib.Core.Path.{_≡_};
 ghost use Rattle.keeper_answers.specs.Keeper.{outcomeNumbers, reportedNumbers, openedNumbers};

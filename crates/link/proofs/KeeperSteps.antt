@@ -34,9 +34,10 @@ use Rattle.keeper.proofs.ReportLaws.{not-refused, accepted-of, report-meaning}
 use Rattle.outcomes.specs.Outcomes.{givesWrite}
 use Rattle.decisions.specs.Decided.{deciding}
 use Rattle.verdict.specs.Decisions.{missIn}
-use Rattle.miss.specs.Answers.{partsRefusal, roomRefusal, missRefused, asStruct, missBytes, outWith, Missed}
-use Rattle.miss.specs.declared.MissAnswer.{MissAnswer}
-use Rattle.miss.specs.declared.MissAnswer.the-variants.{Outcome}
+use Rattle.carrying.specs.Carrying.{asStruct}
+use Rattle.carrying.specs.declared.MissAnswer.{MissAnswer}
+use Rattle.carrying.specs.declared.MissAnswer.the-variants.{Outcome}
+use Rattle.miss.specs.Answers.{partsRefusal, roomRefusal, missRefused, missBytes, outWith, Missed}
 use Rattle.link.specs.Calls.{State, missGave, after}
 use Rattle.link.specs.Calls.{miss as missCall, report as reportCall}
 use Rattle.link.proofs.MessageBytes.{WriteBytes, ReportBytes}

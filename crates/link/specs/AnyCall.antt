@@ -15,8 +15,8 @@ use Rattle.keeper.specs.Reports.{Reported}
 use Rattle.open_slots.specs.Opens.{Opened}
 use Rattle.keeper.specs.declared.ReportAnswer.{ReportAnswer}
 use Rattle.open_slots.specs.declared.OpenAnswer.{OpenAnswer}
+use Rattle.carrying.specs.declared.MissAnswer.{MissAnswer}
 use Rattle.miss.specs.Answers.{Missed}
-use Rattle.miss.specs.declared.MissAnswer.{MissAnswer}
 use Rattle.trace.specs.Runs.{RunIs}
 use Rattle.trace.specs.declared.Ran.{Ran}
 use Rattle.link.specs.Calls.{State, clearedEnds, Call, Sequence, Throughout}

@@ -22,9 +22,9 @@ use Rattle.open_slots.specs.Opens.{Opened}
 use Rattle.keeper.specs.declared.ReportAnswer.{ReportAnswer}
 use Rattle.open_slots.specs.declared.OpenAnswer.{OpenAnswer}
 use Rattle.outcomes.specs.Outcomes.{givesWrite}
+use Rattle.carrying.specs.declared.MissAnswer.{MissAnswer}
+use Rattle.carrying.specs.declared.MissAnswer.the-variants.{Refused as MissRefused, Outcome}
 use Rattle.miss.specs.Answers.{missRefused, Missed}
-use Rattle.miss.specs.declared.MissAnswer.{MissAnswer}
-use Rattle.miss.specs.declared.MissAnswer.the-variants.{Refused as MissRefused, Outcome}
 use Rattle.run_refusals.specs.Refusals.{runRefusal}
 use Rattle.trace.specs.Runs.{RunIs}
 use Rattle.trace.specs.declared.Ran.{Ran}

@@ -4,17 +4,16 @@ use mathlib.Core.Bool.{Bool, true, false}
 use mathlib.Core.List.{List}
 use mathlib.Core.Logic.{_≢_}
 use mathlib.Core.Option.{Option, none, some}
-use Prim.Native.Nat.{ℕ, _≤_, _<_}
+use Prim.Native.Nat.{ℕ}
 use native.Mathlib.Omega.{arith}
-use lib.Dec.{ltb, eqb}
+use lib.Dec.{eqb}
 use lib.ListN.{length, set}
-use borrow.Author.Tests.{eqb-true, eq-eqb, ne-eqb, lt-ltb, le-ltb}
+use borrow.Author.Tests.{eqb-true, eq-eqb, ne-eqb}
 use Rattle.model.specs.Records.{Slot, Write, Outcome, written, entryIn, writeFor, entryAt}
 use Rattle.model.specs.Ends.{Miss, noRule, again, place, usedUp, missWrite}
-use Rattle.model.specs.Refusals.{ragged, badSlots, shortOutput}
+use Rattle.model.specs.Refusals.{ragged, badSlots}
 use Rattle.ternary.specs.Sizes.{keySize}
 use Rattle.buffers.specs.Parts.{splice}
-use Rattle.records.specs.Layout.{writeSize}
 use Rattle.checks.specs.Refusals.{refusal, unlessRefused}
 use Rattle.checks.specs.declared.refusal.Refusal.{Refusal}
 use Rattle.checks.proofs.RefusalLaws.{none-first, need-none}
@@ -24,7 +23,6 @@ use Rattle.slots.proofs.FitLaws.{slots-accepted}
 use Rattle.messages.specs.Writes.{encodeWrite}
 use Rattle.messages.specs.Structs.{asWrite}
 use Rattle.outcomes.specs.Outcomes.{asOutcome, givesWrite}
-use Rattle.entries.specs.Puts.{EntryPut}
 use Rattle.policy.specs.Refusals.{policyRefusal, keyRefusal}
 use Rattle.policy.specs.Answers.{checkAnswer, bestRefusal}
 use Rattle.policy.specs.declared.PolicyAnswer.{PolicyAnswer}
@@ -32,14 +30,14 @@ use Rattle.policy.specs.declared.PolicyAnswer.the-variants.{Refused as BadPolic
 use Rattle.policy.proofs.CheckLaws.{check-refused, check-passed, passed-few}
 use Rattle.decisions.specs.Decided.{deciding, DecidedAs}
 use Rattle.verdict.specs.Decisions.{Fine}
-use Rattle.miss.specs.Answers.{partsRefusal, checkedOf, roomRefusal, missRefused, answerOf, outWith, MissedAs, OnMiss, Missed}
-use Rattle.miss.specs.Answers.{placesEntry, EntryPlaced, CarriedOut}
+use Rattle.carrying.specs.Carrying.{answerOf, placesEntry, CarriedOut}
+use Rattle.carrying.specs.declared.MissAnswer.{MissAnswer}
+use Rattle.carrying.specs.declared.MissAnswer.the-variants.{Refused}
+use Rattle.carrying.proofs.OutcomeLaws.{none-quiet, full-quiet, again-given, entry-given}
+use Rattle.miss.specs.Answers.{partsRefusal, checkedOf, roomRefusal, missRefused, outWith, MissedAs, OnMiss, Missed}
 use Rattle.decisions.specs.declared.Decision.{Decision}
 use Rattle.miss.specs.declared.Parts.{Parts}
 use Rattle.miss.specs.declared.Parts.the-variants.{Refused as PartRefused, Fine as PartsFine}
-use Rattle.miss.specs.declared.MissAnswer.{MissAnswer}
-use Rattle.miss.specs.declared.MissAnswer.the-variants.{Refused, Outcome as Told}
-use Rattle.miss.proofs.OutcomeLaws.{none-quiet, full-quiet, again-given, entry-given}
 
 -- ---- the parts that are lent
 
@@ -91,48 +89,6 @@ module _ (policy key keeper : List ℕ) where
       let parts = none-first (bestRefusal policy key) (slotsRefusal keeper) (of-fine (partsRefusal policy key keeper) e t) in
       let first = none-first (policyRefusal policy) (keyRefusal key) (parts .0) in
       record { few = passed-few policy (first .0); long = fine-key (first .1); whole = slots-accepted keeper .0 (parts .1) }
-
--- ---- the entry of a write
-
-module _ (keeper : List ℕ) (outcome : ℕ) (w : Write) (gives : givesWrite outcome ≡ true) where
-  pub entry-placed : {s : Slot} {keeper′ : List ℕ} → outcome ≢ 5 → EntryPut keeper w s keeper′ → EntryPlaced outcome w keeper keeper′
-  unfolding placesEntry
-  entry-placed n p =
-      record {
-        bytes = rw (gives, ne-eqb outcome 5 n, ← p .slot) (p .put .bytes);
-        meaning = rw (gives, ne-eqb outcome 5 n, ← p .slot) (p .put .meaning);
-      }
-
-  pub entry-left : outcome ≡ 5 → EntryPlaced outcome w keeper keeper
-  unfolding placesEntry
-  entry-left e = record { bytes = rw (gives, eq-eqb outcome 5 e); meaning = rw (gives, eq-eqb outcome 5 e) }
-
--- ---- a decision carried out
-
-module _ (d : Decision) (keeper out : List ℕ) where
-  abbrev o : ℕ
-  o = d .outcome .outcome
-
-  pub carried-quiet : {b : Bool} → b ≡ givesWrite o → b ≡ false → CarriedOut d keeper out (Told (d .outcome)) keeper out
-  unfolding placesEntry
-  carried-quiet e t = record { answer = rw (sym e ∙ t); bytes = rw (sym e ∙ t); meaning = rw (sym e ∙ t); given = rw (sym e ∙ t) }
-
-  module _ {b : Bool} (e : b ≡ givesWrite o) (t : b ≡ true) where
-    pub carried-short : length out < writeSize keySize → CarriedOut d keeper out (Refused (refusal shortOutput 0)) keeper out
-    carried-short l =
-        let s : ltb (length out) (writeSize keySize) ≡ true = lt-ltb (length out) (writeSize keySize) l in
-        record { answer = rw (sym e ∙ t, s); bytes = rw (sym e ∙ t, s); meaning = rw (sym e ∙ t, s); given = rw (sym e ∙ t, s) }
-
-    pub carried-given : {keeper′ out′ : List ℕ} → writeSize keySize ≤ length out → EntryPlaced o (asWrite (d .write)) keeper keeper′
-        → out′ ≡ splice 0 (encodeWrite (asWrite (d .write))) out → CarriedOut d keeper out (Told (d .outcome)) keeper′ out′
-    carried-given l put w =
-        let s : ltb (length out) (writeSize keySize) ≡ false = le-ltb (length out) (writeSize keySize) l in
-        record {
-          answer = rw (sym e ∙ t, s);
-          bytes = rw (sym e ∙ t, s) (put .bytes);
-          meaning = rw (sym e ∙ t, s) (put .meaning);
-          given = rw (sym e ∙ t, s) w;
-        }
 
 -- ---- so it is the miss's answer
 

@@ -1,3 +1,2 @@
 -- Laws of a miss that arrives at the keeper.
-pub mod OutcomeLaws
 pub mod AnswerLaws

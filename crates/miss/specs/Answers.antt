@@ -1,12 +1,12 @@
 -- What the keeper answers to a miss, and what it leaves in its buffer and in the output. Assumes nothing.
 use mathlib.Core.Path.{_≡_}
-use mathlib.Core.Bool.{Bool, not, cond, _&&_}
+use mathlib.Core.Bool.{not}
 use mathlib.Core.List.{List}
 use mathlib.Core.Option.{Option, none, some}
 use Prim.Native.Nat.{ℕ}
-use lib.Dec.{ltb, eqb}
-use lib.ListN.{length, set}
-use Rattle.model.specs.Records.{Write, Outcome, written, entryIn}
+use lib.Dec.{ltb}
+use lib.ListN.{length}
+use Rattle.model.specs.Records.{Write, written}
 use Rattle.model.specs.Ends.{Miss, noRule, again, place, usedUp, missKeeper, missWrite}
 use Rattle.model.specs.Trace.{missOutcome}
 use Rattle.model.specs.Refusals.{shortOutput}
@@ -18,17 +18,13 @@ use Rattle.checks.specs.declared.refusal.Refusal.{Refusal}
 use Rattle.slots.specs.Slots.{slots, putSlot}
 use Rattle.slots.specs.Refusals.{slotsRefusal}
 use Rattle.messages.specs.Writes.{encodeWrite}
-use Rattle.messages.specs.Structs.{asWrite}
-use Rattle.outcomes.specs.Outcomes.{asOutcome, givesWrite}
-use Rattle.outcomes.specs.declared.Outcome.{Outcome as OutcomeStruct}
 use Rattle.policy.specs.Answers.{bestRefusal}
 use Rattle.decisions.specs.Decided.{deciding}
 use Rattle.verdict.specs.Decisions.{missIn}
-use Rattle.decisions.specs.declared.Decision.{Decision}
+use Rattle.carrying.specs.Carrying.{answerOf}
+use Rattle.carrying.specs.declared.MissAnswer.{MissAnswer}
 use Rattle.miss.specs.declared.Parts.{Parts}
 use Rattle.miss.specs.declared.Parts.the-variants.{Refused as PartRefused, Fine}
-use Rattle.miss.specs.declared.MissAnswer.{MissAnswer}
-use Rattle.miss.specs.declared.MissAnswer.the-variants.{Refused, Outcome as Told}
 
 -- ---- refusals
 
@@ -51,14 +47,6 @@ missRefused policy key keeper room =
     orElse (partsRefusal policy key keeper) (roomRefusal (missWrite (slots keySize keeper) (missIn policy key keeper)) room)
 
 -- ---- the answer, and the buffers after it
-
--- the model's outcome as the code's struct
-abbrev pub asStruct : Outcome → OutcomeStruct
-asStruct x = record { outcome = x .outcome; action = x .action; rule = x .rule; slot = x .slot; evicted = x .evicted }
-
-abbrev pub answerOf : Option Refusal → Outcome → MissAnswer
-answerOf (some r) x = Refused r
-answerOf none x = Told (asStruct x)
 
 -- the keeper's bytes: those of one slot are replaced where an entry is placed
 abbrev pub missBytes : List ℕ → Miss → List ℕ
@@ -90,29 +78,3 @@ OnMiss policy key keeper out r keeper′ out′ =
 abbrev pub Missed : List ℕ → List ℕ → List ℕ → List ℕ → MissAnswer → List ℕ → List ℕ → Type 0
 Missed policy key keeper out r keeper′ out′ =
     MissedAs policy keeper (missIn policy key keeper) (missRefused policy key keeper (length out)) out r keeper′ out′
-
--- ---- a decision carried out, in its own values
-
--- outcome 5 gives a write and places no entry
-unfoldable pub placesEntry : ℕ → Bool
-placesEntry outcome = givesWrite outcome && not (eqb outcome 5)
-
--- where the decision gives a write and the output is too short for it
-abbrev pub shortRefusal : ℕ → ℕ → Option Refusal
-shortRefusal outcome room = need (not (givesWrite outcome && ltb room (writeSize keySize))) shortOutput none
-
--- the entry of the write goes into its slot, where one is placed
-pub record EntryPlaced (outcome : ℕ) (w : Write) (keeper keeper′ : List ℕ) : Type 0 where
-  pub bytes : keeper′ ≡ cond (placesEntry outcome) (putSlot keySize keeper (w .slot) (written (entryIn w))) keeper
-  pub meaning : slots keySize keeper′
-      ≡ cond (placesEntry outcome) (set (slots keySize keeper) (w .slot) (written (entryIn w))) (slots keySize keeper)
-
-pub record CarriedOut (d : Decision) (keeper out : List ℕ) (r : MissAnswer) (keeper′ out′ : List ℕ) : Type 0 where
-  pub answer : r ≡ answerOf (shortRefusal (d .outcome .outcome) (length out)) (asOutcome (d .outcome))
-  pub bytes : keeper′ ≡ unlessRefused (shortRefusal (d .outcome .outcome) (length out)) keeper
-      (cond (placesEntry (d .outcome .outcome)) (putSlot keySize keeper (d .write .slot) (written (entryIn (asWrite (d .write))))) keeper)
-  pub meaning : slots keySize keeper′ ≡ unlessRefused (shortRefusal (d .outcome .outcome) (length out)) (slots keySize keeper)
-      (cond (placesEntry (d .outcome .outcome)) (set (slots keySize keeper) (d .write .slot) (written (entryIn (asWrite (d .write)))))
-      (slots keySize keeper))
-  pub given : out′ ≡ unlessRefused (shortRefusal (d .outcome .outcome) (length out)) out
-      (cond (givesWrite (d .outcome .outcome)) (splice 0 (encodeWrite (asWrite (d .write))) out) out)

@@ -35,7 +35,7 @@ fn missed(policy: &[u8], key: &[u8], table: &mut [u8], keeper: &mut [u8]) -> Out
     let outcome = d.outcome;
     let write = d.write;
     if outcomes::kinds::gives_write(outcome.outcome) {
-        miss::place_entry(keeper, outcome.outcome, write);
+        carrying::place_entry(keeper, outcome.outcome, write);
         send(write, table, keeper);
     }
     outcome

@@ -12,8 +12,8 @@ use Rattle.keeper.specs.Reports.{Reported}
 use Rattle.open_slots.specs.Opens.{Opened}
 use Rattle.keeper.specs.declared.ReportAnswer.{ReportAnswer}
 use Rattle.open_slots.specs.declared.OpenAnswer.{OpenAnswer}
+use Rattle.carrying.specs.declared.MissAnswer.{MissAnswer}
 use Rattle.miss.specs.Answers.{Missed}
-use Rattle.miss.specs.declared.MissAnswer.{MissAnswer}
 use Rattle.model.specs.Records.{Totals}
 use Rattle.trace.specs.Runs.{RunIs, shows}
 use Rattle.trace.specs.declared.Ran.{Ran}

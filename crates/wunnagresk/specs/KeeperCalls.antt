@@ -15,8 +15,9 @@ use Rattle.keeper.specs.Reports.{reportRefused, reportAnswer}
 use Rattle.open_slots.specs.Opens.{openIn, openRefusal, answerOf as openOf}
 use Rattle.decisions.specs.Decided.{deciding}
 use Rattle.verdict.specs.Decisions.{missIn}
-use Rattle.miss.specs.Answers.{missRefused, missBytes, outWith, answerOf as missAnswerOf}
-use Rattle.miss.specs.declared.MissAnswer.{MissAnswer}
+use Rattle.carrying.specs.Carrying.{answerOf as missAnswerOf}
+use Rattle.carrying.specs.declared.MissAnswer.{MissAnswer}
+use Rattle.miss.specs.Answers.{missRefused, missBytes, outWith}
 use Rattle.keeper_answers.specs.Keeper.{outcomeNumbers, reportedNumbers, openedNumbers}
 use Rattle.answers.specs.declared.structs.WgCount.{WgCount}
 use Rattle.answers.specs.declared.structs.WgDone.{WgDone}

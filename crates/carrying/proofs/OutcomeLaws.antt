@@ -9,7 +9,7 @@ use Rattle.model.specs.Trace.{missOutcome}
 use Rattle.model.proofs.Cases.{by-cases}
 use Rattle.outcomes.specs.Outcomes.{asOutcome, givesWrite}
 use Rattle.outcomes.specs.declared.Outcome.{Outcome as OutcomeStruct}
-use Rattle.miss.specs.Answers.{placesEntry}
+use Rattle.carrying.specs.Carrying.{placesEntry}
 
 module _ (p : Decisions) (k : List Slot) (x : OutcomeStruct) where
   number-is : {o : Outcome} → asOutcome x ≡ o → x .outcome ≡ o .outcome

@@ -1,10 +1,10 @@
--- `miss::carry_out` meets its contract: no write, too short an output, or the entry and the write. Assumes nothing.
+-- `carrying::carry_out` meets its contract: no write, too short an output, or the entry and the write. Assumes nothing.
 use borrow.Author.Needs.{needs}
 use mathlib.Core.Path.{sym, _∙_}
 use Rattle.model.proofs.Cases.{not-true, not-false}
-use Rattle.miss.proofs.AnswerLaws.{carried-quiet, carried-short, carried-given}
-use Rattle.miss.proofs.carry_out.Statement.{statement}
-use Rattle.miss.proofs.carry_out.Tie as tie
+use Rattle.carrying.proofs.CarryLaws.{carried-quiet, carried-short, carried-given}
+use Rattle.carrying.proofs.carry_out.Statement.{statement}
+use Rattle.carrying.proofs.carry_out.Tie as tie
 
 returns : tie.Need-returns
 returns c = carried-quiet _ _ _ (c .before .gives-write .ensures) (not-true (c .if1 .taken))

@@ -1,8 +1,8 @@
--- `miss::place_entry` meets its contract: the slot is written unless the write is given again. Assumes nothing.
+-- `carrying::place_entry` meets its contract: the slot is written unless the write is given again. Assumes nothing.
 use borrow.Author.Needs.{needs}
-use Rattle.miss.proofs.AnswerLaws.{entry-placed, entry-left}
-use Rattle.miss.proofs.place_entry.Statement.{statement}
-use Rattle.miss.proofs.place_entry.Tie as tie
+use Rattle.carrying.proofs.CarryLaws.{entry-placed, entry-left}
+use Rattle.carrying.proofs.place_entry.Statement.{statement}
+use Rattle.carrying.proofs.place_entry.Tie as tie
 
 returns : tie.Need-returns
 returns c =

@@ -1,0 +1,64 @@
+-- An entry placed, and each way out of carrying a decision out. Assumes nothing.
+use mathlib.Core.Path.{_≡_, sym, _∙_}
+use mathlib.Core.Bool.{Bool, true, false}
+use mathlib.Core.List.{List}
+use mathlib.Core.Logic.{_≢_}
+use Prim.Native.Nat.{ℕ, _≤_, _<_}
+use lib.Dec.{ltb}
+use lib.ListN.{length}
+use borrow.Author.Tests.{eq-eqb, ne-eqb, lt-ltb, le-ltb}
+use Rattle.model.specs.Records.{Slot, Write}
+use Rattle.model.specs.Refusals.{shortOutput}
+use Rattle.ternary.specs.Sizes.{keySize}
+use Rattle.buffers.specs.Parts.{splice}
+use Rattle.records.specs.Layout.{writeSize}
+use Rattle.checks.specs.Refusals.{refusal}
+use Rattle.messages.specs.Writes.{encodeWrite}
+use Rattle.messages.specs.Structs.{asWrite}
+use Rattle.outcomes.specs.Outcomes.{givesWrite}
+use Rattle.entries.specs.Puts.{EntryPut}
+use Rattle.decisions.specs.declared.Decision.{Decision}
+use Rattle.carrying.specs.Carrying.{placesEntry, EntryPlaced, CarriedOut}
+use Rattle.carrying.specs.declared.MissAnswer.the-variants.{Refused, Outcome as Told}
+
+-- ---- the entry of a write
+
+module _ (keeper : List ℕ) (outcome : ℕ) (w : Write) (gives : givesWrite outcome ≡ true) where
+  pub entry-placed : {s : Slot} {keeper′ : List ℕ} → outcome ≢ 5 → EntryPut keeper w s keeper′ → EntryPlaced outcome w keeper keeper′
+  unfolding placesEntry
+  entry-placed n p =
+      record {
+        bytes = rw (gives, ne-eqb outcome 5 n, ← p .slot) (p .put .bytes);
+        meaning = rw (gives, ne-eqb outcome 5 n, ← p .slot) (p .put .meaning);
+      }
+
+  pub entry-left : outcome ≡ 5 → EntryPlaced outcome w keeper keeper
+  unfolding placesEntry
+  entry-left e = record { bytes = rw (gives, eq-eqb outcome 5 e); meaning = rw (gives, eq-eqb outcome 5 e) }
+
+-- ---- a decision carried out
+
+module _ (d : Decision) (keeper out : List ℕ) where
+  abbrev o : ℕ
+  o = d .outcome .outcome
+
+  pub carried-quiet : {b : Bool} → b ≡ givesWrite o → b ≡ false → CarriedOut d keeper out (Told (d .outcome)) keeper out
+  unfolding placesEntry
+  carried-quiet e t = record { answer = rw (sym e ∙ t); bytes = rw (sym e ∙ t); meaning = rw (sym e ∙ t); given = rw (sym e ∙ t) }
+
+  module _ {b : Bool} (e : b ≡ givesWrite o) (t : b ≡ true) where
+    pub carried-short : length out < writeSize keySize → CarriedOut d keeper out (Refused (refusal shortOutput 0)) keeper out
+    carried-short l =
+        let s : ltb (length out) (writeSize keySize) ≡ true = lt-ltb (length out) (writeSize keySize) l in
+        record { answer = rw (sym e ∙ t, s); bytes = rw (sym e ∙ t, s); meaning = rw (sym e ∙ t, s); given = rw (sym e ∙ t, s) }
+
+    pub carried-given : {keeper′ out′ : List ℕ} → writeSize keySize ≤ length out → EntryPlaced o (asWrite (d .write)) keeper keeper′
+        → out′ ≡ splice 0 (encodeWrite (asWrite (d .write))) out → CarriedOut d keeper out (Told (d .outcome)) keeper′ out′
+    carried-given l put w =
+        let s : ltb (length out) (writeSize keySize) ≡ false = le-ltb (length out) (writeSize keySize) l in
+        record {
+          answer = rw (sym e ∙ t, s);
+          bytes = rw (sym e ∙ t, s) (put .bytes);
+          meaning = rw (sym e ∙ t, s) (put .meaning);
+          given = rw (sym e ∙ t, s) w;
+        }

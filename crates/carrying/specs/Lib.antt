@@ -1,0 +1,2 @@
+-- A decision on a miss, carried out: what it leaves in the buffers.
+pub mod Carrying
