@@ -12,6 +12,11 @@ pub none-first : (o later : Option Refusal) → orElse o later ≡ none → (o �
 none-first (some x) later e = let z : _≡_ {A = ℕ} 0 1 = cc in absurd (omega arith)
 none-first none later e = (refl, e)
 
+-- a first test alone
+pub or-none : (o : Option Refusal) → orElse o none ≡ o
+or-none (some r) = refl
+or-none none = refl
+
 -- no refusal: the test passes, and the later ones do
 pub need-none : (b : Bool) (number : ℕ) (later : Option Refusal) → need b number later ≡ none → (b ≡ true) × (later ≡ none)
 need-none true number later e = (refl, e)

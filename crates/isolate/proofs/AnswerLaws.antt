@@ -17,7 +17,8 @@ use Rattle.records.specs.Rules.{ruleCount, rules}
 use Rattle.checks.specs.Refusals.{refusal}
 use Rattle.checks.specs.declared.refusal.Refusal.{Refusal}
 use Rattle.checks.proofs.RefusalLaws.{none-first, need-none}
-use Rattle.policy.specs.Refusals.{policyRefusal, keyRefusal}
+use Rattle.checks.specs.Keys.{keyRefusal}
+use Rattle.policy.specs.Refusals.{policyRefusal}
 use Rattle.best.specs.Best.{bestFound}
 use Rattle.best.specs.declared.BestFound.{BestFound}
 use Rattle.best.specs.declared.BestFound.the-variants.{NoRule, Rule as Found}

@@ -12,7 +12,8 @@ use Rattle.ternary.specs.Sizes.{keySize, positions}
 use Rattle.records.specs.Rules.{ruleCount, rules}
 use Rattle.checks.specs.Refusals.{orElse, need}
 use Rattle.checks.specs.declared.refusal.Refusal.{Refusal}
-use Rattle.policy.specs.Refusals.{policyRefusal, keyRefusal}
+use Rattle.checks.specs.Keys.{keyRefusal}
+use Rattle.policy.specs.Refusals.{policyRefusal}
 use Rattle.isolate.specs.declared.IsolateAnswer.{IsolateAnswer}
 use Rattle.isolate.specs.declared.Said.{Said}
 use Rattle.isolate.specs.declared.Said.the-variants.{Refused, Isolated}

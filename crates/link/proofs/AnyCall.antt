@@ -19,13 +19,14 @@ use Rattle.records.specs.Traces.{packetCount, keys}
 use Rattle.checks.specs.Refusals.{unlessRefused}
 use Rattle.checks.specs.declared.refusal.Refusal.{Refusal}
 use Rattle.checks.proofs.RefusalLaws.{none-first}
+use Rattle.checks.specs.Keys.{keyRefusal}
 use Rattle.slots.specs.Slots.{encodeSlot, slotCount, slots, putSlot}
 use Rattle.slots.proofs.SlotLaws.{slots-put}
 use Rattle.slots.proofs.ByteSlots.{ByteSlot, confirmed-byte}
 use Rattle.slots.proofs.SlotBytes.{spelled-slots}
 use Rattle.messages.specs.Reports.{decodeReport}
 use Rattle.outcomes.specs.Outcomes.{encodeOutcome}
-use Rattle.policy.specs.Refusals.{policyRefusal, keyRefusal}
+use Rattle.policy.specs.Refusals.{policyRefusal}
 use Rattle.policy.specs.Answers.{bestRefusal}
 use Rattle.policy.proofs.Acceptance.{accepted-bytes}
 use Rattle.received.proofs.AfterLaws.{after-lookup, after-write}

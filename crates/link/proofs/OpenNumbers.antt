@@ -1,31 +1,20 @@
 -- What an accepted open call says: the numbers of the open slots, read from its output. Assumes nothing.
 use mathlib.Core.Path.{_≡_, refl, _∙_}
 use mathlib.Core.Bool.{true}
-use mathlib.Core.List.{List, [], _∷_, _++_}
+use mathlib.Core.List.{List, [], _∷_}
 use mathlib.Core.Option.{Option, none, some}
-use Prim.Native.Nat.{ℕ, zero, suc, _*_, _^_, _<_}
+use Prim.Native.Nat.{ℕ, _*_, _<_}
 use native.Mathlib.Omega.{arith}
 use lib.ListN.{length, getD}
 use Rattle.model.specs.Below.{elem}
 use Rattle.model.proofs.BelowLaws.{place-in}
 use Rattle.buffers.specs.Numbers.{be}
 use Rattle.buffers.specs.Parts.{part, splice, spelled}
-use Rattle.buffers.proofs.NumberLaws.{be-toBe}
 use Rattle.records.specs.Layout.{mostSlots}
 use Rattle.checks.specs.declared.refusal.Refusal.{Refusal}
-use Rattle.numbers.specs.Written.{numberBytes}
+use Rattle.numbers.proofs.ByteLaws.{number-at}
 use Rattle.open_slots.specs.Opens.{openIn, openRefusal, answerOf, Opened}
 use Rattle.open_slots.specs.declared.OpenAnswer.the-variants.{Count}
-
--- ---- a list as numbers of two bytes each
-
-number-at : (xs rest : List ℕ) (j : ℕ) → j < length xs → getD xs j 0 < 2 ^ 16 → be (part 2 (2 * j) (numberBytes xs ++ rest)) ≡ getD xs j 0
-unfolding spelled
-number-at [] rest j l low = absurd (omega arith)
-number-at (x ∷ xs) rest zero l low = be-toBe 2 x low
-number-at (x ∷ xs) rest (suc j) l low =
-    let n : 2 * suc j ≡ suc (suc (2 * j)) = omega arith in
-    rw n (number-at xs rest j (omega arith) low)
 
 -- ---- what an accepted open call says
 

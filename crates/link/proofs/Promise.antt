@@ -29,7 +29,8 @@ use Rattle.slots.proofs.SlotLaws.{slot-at}
 use Rattle.slots.proofs.FitLaws.{slots-accepted}
 use Rattle.messages.specs.Writes.{decodeWrite}
 use Rattle.messages.specs.Reports.{decodeReport}
-use Rattle.policy.specs.Refusals.{policyRefusal, keyRefusal, AcceptedBytes}
+use Rattle.checks.specs.Keys.{keyRefusal}
+use Rattle.policy.specs.Refusals.{policyRefusal, AcceptedBytes}
 use Rattle.best.specs.Best.{bestFound}
 use Rattle.policy.specs.Answers.{bestRefusal}
 use Rattle.best.specs.Answers.{bestAnswer}

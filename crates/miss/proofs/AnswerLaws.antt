@@ -17,13 +17,14 @@ use Rattle.buffers.specs.Parts.{splice}
 use Rattle.checks.specs.Refusals.{refusal, unlessRefused}
 use Rattle.checks.specs.declared.refusal.Refusal.{Refusal}
 use Rattle.checks.proofs.RefusalLaws.{none-first, need-none}
+use Rattle.checks.specs.Keys.{keyRefusal}
 use Rattle.slots.specs.Slots.{slots, putSlot}
 use Rattle.slots.specs.Refusals.{slotsFit, slotsRefusal}
 use Rattle.slots.proofs.FitLaws.{slots-accepted}
 use Rattle.messages.specs.Writes.{encodeWrite}
 use Rattle.messages.specs.Structs.{asWrite}
 use Rattle.outcomes.specs.Outcomes.{asOutcome, givesWrite}
-use Rattle.policy.specs.Refusals.{policyRefusal, keyRefusal}
+use Rattle.policy.specs.Refusals.{policyRefusal}
 use Rattle.policy.specs.Answers.{checkAnswer, bestRefusal}
 use Rattle.policy.specs.declared.PolicyAnswer.{PolicyAnswer}
 use Rattle.policy.specs.declared.PolicyAnswer.the-variants.{Refused as BadPolicy, Rules}

@@ -1,17 +1,26 @@
--- The bytes of a list of numbers, written one number after the other. Assumes nothing.
-use Prim.Native.Nat.{ℕ, _+_, _*_, _≤_, _<_}
+-- The bytes of a list of numbers, written one number after the other, and read. Assumes nothing.
+use Prim.Native.Nat.{ℕ, zero, suc, _+_, _*_, _^_, _≤_, _<_}
 use mathlib.Core.Path.{_≡_, refl, ap, _∙_}
-use mathlib.Core.List.{List}
+use mathlib.Core.List.{List, [], _∷_, _++_}
 use native.Mathlib.Omega.{arith}
 use native.Mathlib.Numerals.{add-one}
 use lib.ListN.{length, take, getD}
 use lib.Seq.{take-suc, length-take-le}
-use Rattle.buffers.specs.Numbers.{toBe}
-use Rattle.buffers.specs.Parts.{splice, spelled}
+use Rattle.buffers.specs.Numbers.{be, toBe}
+use Rattle.buffers.specs.Parts.{part, splice, spelled}
 use Rattle.buffers.proofs.PartLaws.{length-splice, splice-next}
 use Rattle.buffers.proofs.RowLaws.{spelled-more, length-spelled}
-use Rattle.buffers.proofs.NumberLaws.{toBe-length}
+use Rattle.buffers.proofs.NumberLaws.{toBe-length, be-toBe}
 use Rattle.numbers.specs.Written.{numberBytes}
+
+-- the j-th number, read
+pub number-at : (xs rest : List ℕ) (j : ℕ) → j < length xs → getD xs j 0 < 2 ^ 16 → be (part 2 (2 * j) (numberBytes xs ++ rest)) ≡ getD xs j 0
+unfolding spelled
+number-at [] rest j l low = absurd (omega arith)
+number-at (x ∷ xs) rest zero l low = be-toBe 2 x low
+number-at (x ∷ xs) rest (suc j) l low =
+    let n : 2 * suc j ≡ suc (suc (2 * j)) = omega arith in
+    rw n (number-at xs rest j (omega arith) low)
 
 module _ (items out₀ : List ℕ) where
   -- the first i numbers are written

@@ -6,7 +6,8 @@ use Rattle.ternary.specs.Sizes.{keySize}
 use Rattle.records.specs.Rules.{ruleCount}
 use Rattle.checks.specs.declared.refusal.Refusal.{Refusal}
 use Rattle.checks.specs.Refusals.{orElse}
-use Rattle.policy.specs.Refusals.{policyRefusal, keyRefusal}
+use Rattle.checks.specs.Keys.{keyRefusal}
+use Rattle.policy.specs.Refusals.{policyRefusal}
 use Rattle.policy.specs.declared.PolicyAnswer.{PolicyAnswer}
 use Rattle.policy.specs.declared.PolicyAnswer.the-variants.{Refused, Rules}
 

@@ -1,4 +1,4 @@
--- How a policy and a key are refused, in the order of the tests. Assumes nothing.
+-- How a policy is refused, in the order of the tests. Assumes nothing.
 use mathlib.Core.Path.{_≡_}
 use mathlib.Core.Bool.{not}
 use mathlib.Core.List.{List}
@@ -29,10 +29,6 @@ unfoldable pub policyRefusal : List ℕ → Option Refusal
 policyRefusal bs =
     need (eqb (length bs % ruleSize keySize) 0) ragged
     (need (not (ltb mostRules (ruleCount keySize bs))) tooMany (flawRefusal (firstFlawed (ruleFlawAt keySize bs) (ruleCount keySize bs))))
-
--- key 1
-unfoldable pub keyRefusal : List ℕ → Option Refusal
-keyRefusal key = need (eqb (length key) keySize) ragged none
 
 -- what the bytes of a policy that is not refused are: whole records, an accepted policy, zero bytes zero
 pub record AcceptedBytes (bs : List ℕ) : Type 0 where

@@ -15,7 +15,7 @@ use Rattle.ternary.specs.Sizes.{keySize}
 use Rattle.buffers.specs.Parts.{spelled}
 use Rattle.records.specs.Layout.{outcomeSize, slotSize, mostSlots, mostPackets}
 use Rattle.records.specs.Traces.{packetCount}
-use Rattle.checks.specs.Refusals.{orElse}
+use Rattle.checks.proofs.RefusalLaws.{or-none}
 use Rattle.checks.specs.declared.refusal.Refusal.{Refusal}
 use Rattle.slots.specs.Refusals.{slotsRefusal, WholeSlots}
 use Rattle.slots.proofs.FitLaws.{slots-accepted}
@@ -38,10 +38,6 @@ pub take-zeros : (m k : ℕ) → m ≤ k → take {A = ℕ} m (replicate k 0) �
 take-zeros zero k l = refl
 take-zeros (suc m) zero l = absurd (omega arith)
 take-zeros (suc m) (suc k) l = ap (λ (xs : List ℕ). 0 ∷ xs) (take-zeros m k (le-of-suc-le-suc l))
-
-or-none : (o : Option Refusal) → orElse o none ≡ o
-or-none (some r) = refl
-or-none none = refl
 
 -- room for every outcome
 abbrev pub outputRoom : ℕ

@@ -19,13 +19,13 @@ use Rattle.records.specs.Layout.{writeKind, isWrite, writeSize, reportSize}
 use Rattle.checks.specs.Flaws.{Zeros, writeSpares}
 use Rattle.checks.proofs.CleanLaws.{write-clean}
 use Rattle.checks.proofs.RefusalLaws.{none-first, need-none}
+use Rattle.checks.specs.Keys.{keyRefusal}
 use Rattle.slots.specs.Slots.{slotCount, slots}
 use Rattle.slots.specs.Refusals.{WholeSlots}
 use Rattle.slots.proofs.SlotLaws.{slot-count}
 use Rattle.slots.proofs.FitLaws.{slots-accepted}
 use Rattle.messages.specs.Writes.{decodeWrite}
 use Rattle.messages.specs.Reports.{encodeReport}
-use Rattle.policy.specs.Refusals.{keyRefusal}
 use Rattle.table.specs.Lookups.{hitRefusal, lookupRefusal, GoodLookup, answerOf, toldOf}
 use Rattle.table.specs.Lookups.{lookupAnswer, slotsAfterLookup, outAfterLookup, LookedUp}
 use Rattle.received.specs.Writes.{writeCallRefusal, GoodWrite, slotsAfterWrite, outAfterWrite, Received}

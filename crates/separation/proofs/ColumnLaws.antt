@@ -9,11 +9,10 @@ use lib.ListN.{length, take, getD, set, length-set}
 use lib.Seq.{take-suc, take-suc-set}
 use Rattle.model.specs.Below.{keep, allBelow}
 use Rattle.model.specs.Bits.{digit}
-use Rattle.model.proofs.BelowLaws.{all-at}
+use Rattle.model.proofs.BelowLaws.{all-at, length-last}
 use Rattle.ternary.proofs.ByteLaws.{beq-same}
 use Rattle.records.specs.Layout.{mostRules}
 use Rattle.separation.specs.Columns.{bitSet, Marks}
-use Rattle.separation.proofs.StandingLaws.{length-last}
 
 -- ---- the column, one of the standing after the other
 

@@ -8,26 +8,14 @@ use native.Mathlib.Omega.{arith}
 use lib.ListN.{length, take, getD, set, length-append, length-set}
 use lib.Seq.{take-suc, take-suc-set}
 use Rattle.model.specs.Below.{keep}
-use Rattle.model.proofs.Cases.{by-cases}
+use Rattle.model.proofs.BelowLaws.{keep-last}
 use Rattle.numbers.specs.Numbers.{Lists}
 
 module _ (f : ℕ → Bool) where
-  keep-last : (xs : List ℕ) (x : ℕ) → keep f (xs ++ (x ∷ [])) ≡ keep f xs ++ cond (f x) (x ∷ []) []
-  unfolding keep
-  keep-last [] x = refl
-  keep-last (y ∷ ys) x = by-cases (f y) (λ t. rw (t, keep-last ys x)) (λ t. rw (t, keep-last ys x))
-
-  -- how many are kept of one more
-  pub length-last : (xs : List ℕ) (x : ℕ) → length (keep f (xs ++ (x ∷ []))) ≡ length (keep f xs) + cond (f x) 1 0
-  length-last xs x =
-      ap length (keep-last xs x)
-      ∙ length-append (keep f xs) (cond (f x) (x ∷ []) [])
-      ∙ by-cases (f x) (λ t. rw t) (λ t. rw t)
-
   -- one item more: it is kept, or it is not
   module _ (items : List ℕ) (i : ℕ) (l : i < length items) where
     keep-next : keep f (take (i + 1) items) ≡ keep f (take i items) ++ cond (f (getD items i 0)) (getD items i 0 ∷ []) []
-    keep-next = rw (add-one i, take-suc items i 0 l) (keep-last (take i items) (getD items i 0))
+    keep-next = rw (add-one i, take-suc items i 0 l) (keep-last f (take i items) (getD items i 0))
 
     kept : f (getD items i 0) ≡ true → keep f (take (i + 1) items) ≡ keep f (take i items) ++ (getD items i 0 ∷ [])
     kept t = keep-next ∙ rw t

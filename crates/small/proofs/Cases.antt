@@ -15,8 +15,9 @@ use Rattle.buffers.specs.Numbers.{be}
 use Rattle.buffers.specs.Parts.{splice, recordsIn, spelled}
 use Rattle.records.specs.Rules.{decodeRule, rules}
 use Rattle.checks.specs.Flaws.{ruleFlaw}
+use Rattle.checks.specs.Keys.{keyRefusal}
 use Rattle.flawed.specs.Flawed.{firstFlawed}
-use Rattle.policy.specs.Refusals.{policyRefusal, keyRefusal}
+use Rattle.policy.specs.Refusals.{policyRefusal}
 use Rattle.best.specs.Best.{bestFound}
 use Rattle.policy.specs.Answers.{bestRefusal}
 use Rattle.best.specs.Answers.{bestAnswer}

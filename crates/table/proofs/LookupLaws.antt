@@ -16,13 +16,13 @@ use Rattle.buffers.specs.Parts.{splice}
 use Rattle.records.specs.Layout.{slotSize, reportSize, mostSlots}
 use Rattle.checks.specs.declared.refusal.Refusal.{Refusal}
 use Rattle.checks.proofs.RefusalLaws.{none-first, need-none}
+use Rattle.checks.specs.Keys.{keyRefusal}
 use Rattle.slots.specs.Slots.{slotCount, slots}
 use Rattle.slots.specs.Refusals.{slotsRefusal, WholeSlots}
 use Rattle.slots.proofs.SlotLaws.{slot-count, slot-at, slots-spell}
 use Rattle.slots.proofs.FitLaws.{slots-accepted}
 use Rattle.hits.specs.Hits.{Counted}
 use Rattle.messages.specs.Reports.{encodeReport}
-use Rattle.policy.specs.Refusals.{keyRefusal}
 use Rattle.table.specs.Lookups.{roomRefusal, lookupRefusal, foundOf, findAnswer}
 use Rattle.table.specs.Lookups.{lookupAnswer, slotsAfterLookup, tableAfterLookup, outAfterLookup, LookedUp}
 use Rattle.table.specs.declared.lookup.Found.the-variants.{Refused as FoundRefused, Miss as FoundMiss, Slot as FoundSlot}

@@ -13,10 +13,10 @@ use Rattle.buffers.specs.Parts.{splice, spelled}
 use Rattle.records.specs.Layout.{reportSize}
 use Rattle.checks.specs.Refusals.{orElse, need, unlessRefused}
 use Rattle.checks.specs.declared.refusal.Refusal.{Refusal}
+use Rattle.checks.specs.Keys.{keyRefusal}
 use Rattle.slots.specs.Slots.{encodeSlot, slots}
 use Rattle.slots.specs.Refusals.{slotsRefusal, WholeSlots}
 use Rattle.messages.specs.Reports.{encodeReport}
-use Rattle.policy.specs.Refusals.{keyRefusal}
 use Rattle.table.specs.declared.lookup.Found.{Found}
 use Rattle.table.specs.declared.lookup.Found.the-variants.{Refused as FoundRefused, Miss as FoundMiss, Slot as FoundSlot}
 use Rattle.table.specs.declared.lookup.LookupAnswer.{LookupAnswer}

@@ -3,7 +3,8 @@ use borrow.Author.Needs.{needs}
 use mathlib.Core.Path.{_≡_, sym, _∙_}
 use mathlib.Core.Option.{none}
 use borrow.Author.Tests.{eq-eqb, ne-eqb}
-use Rattle.policy.specs.Refusals.{policyRefusal, keyRefusal}
+use Rattle.checks.specs.Keys.{keyRefusal}
+use Rattle.policy.specs.Refusals.{policyRefusal}
 use Rattle.policy.specs.Answers.{bestRefusal}
 use Rattle.policy.proofs.CheckLaws.{check-refused, check-passed, passed-few}
 use Rattle.best.specs.Answers.{bestAnswer}

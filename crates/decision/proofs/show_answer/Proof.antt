@@ -11,7 +11,8 @@ use Rattle.ternary.specs.Sizes.{keySize, positions}
 use Rattle.slots.specs.Slots.{slots}
 use Rattle.slots.specs.Refusals.{slotsFit, slotsRefusal}
 use Rattle.holding.proofs.HoldingLaws.{found-nowhere, found-at}
-use Rattle.policy.specs.Refusals.{policyRefusal, keyRefusal}
+use Rattle.checks.specs.Keys.{keyRefusal}
+use Rattle.policy.specs.Refusals.{policyRefusal}
 use Rattle.policy.specs.Answers.{bestRefusal}
 use Rattle.policy.proofs.CheckLaws.{check-refused, check-passed, passed-few}
 use Rattle.best.proofs.BestLaws.{found-none, found-rule}

@@ -7,7 +7,7 @@ use borrow.Author.Tests.{eq-eqb, ne-eqb, le-leb, lt-leb}
 use Rattle.model.specs.Ends.{firstFor}
 use Rattle.model.proofs.Cases.{not-true, not-false}
 use Rattle.ternary.specs.Sizes.{keySize, positions}
-use Rattle.policy.specs.Refusals.{keyRefusal}
+use Rattle.checks.specs.Keys.{keyRefusal}
 use Rattle.slots.specs.Slots.{slots}
 use Rattle.slots.specs.Refusals.{slotsFit, slotsRefusal}
 use Rattle.holding.proofs.HoldingLaws.{found-nowhere, found-at}
