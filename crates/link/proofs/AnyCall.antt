@@ -36,7 +36,7 @@ use Rattle.keeper.proofs.ReportLaws.{accepted-of}
 use Rattle.verdict.specs.Decisions.{missIn}
 use Rattle.miss.specs.Answers.{partsRefusal, missRefused, missBytes}
 use Rattle.totals.specs.declared.Totals.{Totals as TotalsStruct}
-use Rattle.packet.specs.Packets.{endsIn}
+use Rattle.sending.specs.Sending.{endsIn}
 use Rattle.run_refusals.specs.Refusals.{runRefusal}
 use Rattle.trace.specs.Runs.{outcomesOf, endsOf, runOf, RunIs}
 use Rattle.trace.specs.declared.RunAnswer.the-variants.{Refused, Packets}

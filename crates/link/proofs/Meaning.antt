@@ -16,7 +16,7 @@ use Rattle.slots.specs.Refusals.{WholeSlots}
 use Rattle.slots.proofs.SlotBytes.{ByteSlots, slots-byte}
 use Rattle.messages.specs.Writes.{decodeWrite}
 use Rattle.messages.specs.Reports.{decodeReport}
-use Rattle.packet.specs.Packets.{endsIn}
+use Rattle.sending.specs.Sending.{endsIn}
 use Rattle.link.specs.Calls.{State}
 use Rattle.link.proofs.MessageBytes.{WriteBytes, ReportBytes}
 use Rattle.link.proofs.PacketBytes.{ByteEnds}

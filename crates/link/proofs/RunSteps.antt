@@ -17,7 +17,7 @@ use Rattle.slots.specs.Slots.{encodeSlot}
 use Rattle.slots.proofs.SlotBytes.{ByteSlots, spelled-long, spelled-bytes}
 use Rattle.policy.specs.Refusals.{AcceptedBytes}
 use Rattle.decisions.specs.Decided.{deciding}
-use Rattle.packet.specs.Packets.{endsIn}
+use Rattle.sending.specs.Sending.{endsIn}
 use Rattle.run_refusals.specs.Refusals.{runRefusal}
 use Rattle.trace.specs.Runs.{endsOf, Shown, runOf, RunIs}
 use Rattle.trace.specs.declared.Ran.{Ran}

@@ -23,8 +23,8 @@ use Rattle.table.specs.declared.lookup.LookupAnswer.the-variants.{Hit}
 use Rattle.received.proofs.ModelLaws.{good-lookup, looked-up}
 use Rattle.keeper.specs.Reports.{Reported}
 use Rattle.keeper.specs.declared.ReportAnswer.{ReportAnswer}
+use Rattle.sending.proofs.SentLaws.{same-ends, as-whole, report-fits, reported-to}
 use Rattle.packet.specs.Packets.{FinePacket, Became, missedOutcome, missedEnds, packetOutcome, packetEnds}
-use Rattle.packet.proofs.SentLaws.{same-ends, as-whole, report-fits, reported-to}
 
 module _ {policy key table keeper out table′ out′ : List ℕ} {r : LookupAnswer}
     (fine : FinePacket policy key table keeper) (room : length out ≡ reportSize) (is : LookedUp key table out r table′ out′) where

@@ -1,4 +1,3 @@
 -- Laws of a packet's messages, each delivered at once.
-pub mod SentLaws
 pub mod MissLaws
 pub mod HitLaws

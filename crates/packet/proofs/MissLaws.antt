@@ -17,7 +17,8 @@ use Rattle.decisions.specs.declared.Decision.{Decision}
 use Rattle.verdict.specs.Decisions.{missIn}
 use Rattle.carrying.specs.Carrying.{EntryPlaced}
 use Rattle.carrying.proofs.OutcomeLaws.{none-quiet, full-quiet, again-given, entry-given}
-use Rattle.packet.specs.Packets.{endsIn, Became, sentEnds, missedOutcome, missedEnds}
+use Rattle.sending.specs.Sending.{endsIn, sentEnds}
+use Rattle.packet.specs.Packets.{Became, missedOutcome, missedEnds}
 
 module _ (policy keeper : List ℕ) (d : Decision) where
   abbrev k : List Slot

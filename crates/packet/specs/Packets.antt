@@ -2,23 +2,15 @@
 use mathlib.Core.Path.{_≡_}
 use mathlib.Core.List.{List}
 use Prim.Native.Nat.{ℕ}
-use Rattle.model.specs.Records.{Write, Outcome}
-use Rattle.model.specs.Ends.{writeRefusal, missKeeper, missWrite}
-use Rattle.model.specs.Trace.{Ends, writtenTo, sentTo, onePacket, missOutcome, oneOutcome}
+use Rattle.model.specs.Records.{Outcome}
+use Rattle.model.specs.Ends.{missKeeper, missWrite}
+use Rattle.model.specs.Trace.{Ends, sentTo, onePacket, missOutcome, oneOutcome}
 use Rattle.ternary.specs.Sizes.{keySize, positions}
 use Rattle.slots.specs.Slots.{slots}
 use Rattle.slots.specs.Refusals.{WholeSlots}
 use Rattle.decisions.specs.Decided.{deciding}
 use Rattle.verdict.specs.Decisions.{Fine, missIn}
-
--- the two ends that the buffers hold
-abbrev pub endsIn : List ℕ → List ℕ → Ends
-endsIn table keeper = record { keeper = slots keySize keeper; table = slots keySize table }
-
--- neither end's buffer is refused
-pub record WholeEnds (table keeper : List ℕ) : Type 0 where
-  pub table-whole : WholeSlots table
-  pub keeper-whole : WholeSlots keeper
+use Rattle.sending.specs.Sending.{endsIn}
 
 -- no part of a packet is refused
 pub record FinePacket (policy key table keeper : List ℕ) : Type 0 where
@@ -29,11 +21,6 @@ pub record FinePacket (policy key table keeper : List ℕ) : Type 0 where
 pub record Became (o : Outcome) (e : Ends) (x : Outcome) (table′ keeper′ : List ℕ) : Type 0 where
   pub outcome : x ≡ o
   pub ends : endsIn table′ keeper′ ≡ e
-
--- a write goes to the table, and its report to the keeper
-abbrev pub sentEnds : List ℕ → List ℕ → Write → Ends
-sentEnds table keeper x =
-    writtenTo (slots keySize keeper) (slots keySize table) x (writeRefusal positions (slots keySize table) x)
 
 -- a miss goes to the keeper, and its write to the table
 abbrev pub missedOutcome : List ℕ → List ℕ → List ℕ → Outcome

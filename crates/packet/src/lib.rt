@@ -1,28 +1,8 @@
 // One packet of a run: each message is delivered at once.
-use messages::write::Write;
 use outcomes::Outcome;
 use records::layout;
-ghost use mathlib.Core.Path.{_≡_};
-ghost use Rattle.messages.specs.Structs.{asWrite};
 ghost use Rattle.outcomes.specs.Outcomes.{asOutcome};
-ghost use Rattle.packet.specs.Packets.{endsIn, WholeEnds, FinePacket, Became, sentEnds};
-ghost use Rattle.packet.specs.Packets.{missedOutcome, missedEnds, packetOutcome, packetEnds};
-
-// A write goes to the table, and its report to the keeper. What an end refuses changes nothing there.
-fn send(w: Write, table: &mut [u8], keeper: &mut [u8])
-    requires { ⌜ WholeEnds (now table) (now keeper) ⌝ }
-    ensures { λ _. ⌜ endsIn (now (table .exit)) (now (keeper .exit)) ≡ sentEnds (now (table .entry)) (now (keeper .entry)) (asWrite w) ⌝ }
-{
-    let message = messages::write::write_bytes(w);
-    let mut back = [0; layout::REPORT_SIZE];
-    if let received::write::WriteAnswer::Taken = received::write::write(
-        table,
-        &message,
-        &mut back,
-    ) {
-        keeper::report(keeper, &back);
-    }
-}
+ghost use Rattle.packet.specs.Packets.{FinePacket, Became, missedOutcome, missedEnds, packetOutcome, packetEnds};
 
 // A miss goes to the keeper, and the write, where one is given, to the table.
 fn missed(policy: &[u8], key: &[u8], table: &mut [u8], keeper: &mut [u8]) -> Outcome
@@ -36,7 +16,7 @@ fn missed(policy: &[u8], key: &[u8], table: &mut [u8], keeper: &mut [u8]) -> Out
     let write = d.write;
     if outcomes::kinds::gives_write(outcome.outcome) {
         carrying::place_entry(keeper, outcome.outcome, write);
-        send(write, table, keeper);
+        sending::send(write, table, keeper);
     }
     outcome
 }

@@ -22,7 +22,7 @@ use Rattle.slots.specs.Slots.{encodeSlot}
 use Rattle.outcomes.specs.Outcomes.{decodeOutcome, encodeOutcome}
 use Rattle.outcomes.proofs.OutcomeLaws.{length-outcome}
 use Rattle.decisions.specs.Decided.{deciding}
-use Rattle.packet.specs.Packets.{endsIn}
+use Rattle.sending.specs.Sending.{endsIn}
 use Rattle.run_refusals.specs.Refusals.{runRefusal}
 use Rattle.trace.specs.Runs.{outcomesOf, endsOf, Shown, shownOf, runOf, endsLeft}
 use Rattle.trace.specs.declared.RunAnswer.{RunAnswer}

@@ -17,7 +17,7 @@ use Rattle.records.specs.Traces.{packetCount, keys, decodeTrace}
 use Rattle.slots.specs.Slots.{encodeSlot}
 use Rattle.outcomes.specs.Outcomes.{encodeOutcome}
 use Rattle.decisions.specs.Decided.{deciding}
-use Rattle.packet.specs.Packets.{endsIn}
+use Rattle.sending.specs.Sending.{endsIn}
 use Rattle.trace.proofs.RunLaws.{run-whole}
 use Rattle.trace.specs.declared.RunAnswer.{RunAnswer}
 use Rattle.trace.specs.declared.RunAnswer.the-variants.{Refused, Packets}

@@ -23,8 +23,9 @@ use Rattle.outcomes.proofs.OutcomeLaws.{length-outcome}
 use Rattle.totals.specs.Sums.{mostTotal, AtMost}
 use Rattle.totals.proofs.SumLaws.{after-most}
 use Rattle.decisions.specs.Decided.{deciding}
-use Rattle.packet.specs.Packets.{endsIn, FinePacket, Became, packetOutcome, packetEnds}
-use Rattle.packet.proofs.SentLaws.{as-whole}
+use Rattle.sending.specs.Sending.{endsIn}
+use Rattle.sending.proofs.SentLaws.{as-whole}
+use Rattle.packet.specs.Packets.{FinePacket, Became, packetOutcome, packetEnds}
 use Rattle.steps.specs.Steps.{RunFits, Stepped, toldBy, endsAfter, RanOver}
 
 -- ---- a step

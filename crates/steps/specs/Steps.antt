@@ -15,7 +15,8 @@ use Rattle.records.specs.Traces.{packetCount}
 use Rattle.slots.specs.Refusals.{WholeSlots}
 use Rattle.outcomes.specs.Outcomes.{encodeOutcome}
 use Rattle.decisions.specs.Decided.{deciding}
-use Rattle.packet.specs.Packets.{endsIn, packetOutcome, packetEnds}
+use Rattle.sending.specs.Sending.{endsIn}
+use Rattle.packet.specs.Packets.{packetOutcome, packetEnds}
 
 -- the buffers of a run that is not refused
 pub record RunFits (policy trace table keeper out : List ℕ) : Type 0 where

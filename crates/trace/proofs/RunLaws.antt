@@ -27,7 +27,7 @@ use Rattle.policy.proofs.CheckLaws.{passed-few}
 use Rattle.totals.specs.declared.Totals.{Totals as TotalsStruct}
 use Rattle.totals.specs.Sums.{asTotals, mostTotal, totalsFit, AtMost}
 use Rattle.totals.proofs.SumLaws.{fit-most}
-use Rattle.packet.proofs.SentLaws.{as-whole}
+use Rattle.sending.proofs.SentLaws.{as-whole}
 use Rattle.steps.specs.Steps.{RunFits, RanOver}
 use Rattle.run_refusals.specs.Refusals.{traceRefusal, endsRefusal, runRefusal, partsOf}
 use Rattle.run_refusals.proofs.PartLaws.{of-refused}

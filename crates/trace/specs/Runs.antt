@@ -14,7 +14,7 @@ use Rattle.checks.specs.declared.refusal.Refusal.{Refusal}
 use Rattle.slots.specs.Slots.{encodeSlot}
 use Rattle.outcomes.specs.Outcomes.{encodeOutcome}
 use Rattle.totals.specs.Sums.{asTotals}
-use Rattle.packet.specs.Packets.{endsIn}
+use Rattle.sending.specs.Sending.{endsIn}
 use Rattle.steps.specs.Steps.{toldBy, endsAfter}
 use Rattle.run_refusals.specs.Refusals.{runRefusal}
 use Rattle.trace.specs.declared.RunAnswer.{RunAnswer}

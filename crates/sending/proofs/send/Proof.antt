@@ -1,12 +1,12 @@
--- `packet::send` meets its contract: the write is refused by the table, or taken, and then its report goes to the keeper. Assumes nothing.
+-- `sending::send` meets its contract: the write is refused by the table, or taken, and then its report goes to the keeper. Assumes nothing.
 use borrow.Author.Needs.{needs}
 use Rattle.ternary.proofs.ByteLaws.{bytes-of}
 use Rattle.ternary.specs.Sizes.{keySize}
 use Rattle.messages.specs.Writes.{WriteFits}
 use Rattle.messages.specs.Structs.{asWrite}
-use Rattle.packet.proofs.SentLaws.{sent-refused, sent-taken}
-use Rattle.packet.proofs.send.Statement.{statement}
-use Rattle.packet.proofs.send.Tie as tie
+use Rattle.sending.proofs.SentLaws.{sent-refused, sent-taken}
+use Rattle.sending.proofs.send.Statement.{statement}
+use Rattle.sending.proofs.send.Tie as tie
 
 fits : (c : tie.After-write-bytes) → WriteFits keySize (asWrite (c .before .before .before .args .w))
 fits c = search needs

@@ -31,7 +31,7 @@ use Rattle.received.proofs.ModelLaws.{taken-here, taken-there, received}
 use Rattle.keeper.specs.Reports.{numbered, reportRefused, Reported}
 use Rattle.keeper.specs.declared.ReportAnswer.{ReportAnswer}
 use Rattle.keeper.proofs.ReportLaws.{report-meaning}
-use Rattle.packet.specs.Packets.{endsIn, WholeEnds, sentEnds}
+use Rattle.sending.specs.Sending.{endsIn, WholeEnds, sentEnds}
 
 -- ends with the same slots are the same
 pub same-ends : {a b : Ends} → a .keeper ≡ b .keeper → a .table ≡ b .table → a ≡ b
