@@ -16,6 +16,7 @@ use Rattle.buffers.proofs.PartLaws.{splice-all}
 use Rattle.records.specs.Layout.{reportSize}
 use Rattle.slots.specs.Slots.{slotCount, slots}
 use Rattle.slots.proofs.SlotLaws.{slot-count}
+use Rattle.slots.proofs.FitLaws.{as-whole}
 use Rattle.messages.specs.Reports.{encodeReport, ReportFits}
 use Rattle.table.specs.Lookups.{lookupRefusal, answerOf, LookedUp}
 use Rattle.table.specs.declared.lookup.LookupAnswer.{LookupAnswer}
@@ -23,7 +24,7 @@ use Rattle.table.specs.declared.lookup.LookupAnswer.the-variants.{Hit}
 use Rattle.received.proofs.ModelLaws.{good-lookup, looked-up}
 use Rattle.keeper.specs.Reports.{Reported}
 use Rattle.keeper.specs.declared.ReportAnswer.{ReportAnswer}
-use Rattle.sending.proofs.SentLaws.{same-ends, as-whole, report-fits, reported-to}
+use Rattle.sending.proofs.SentLaws.{same-ends, report-fits, reported-to}
 use Rattle.packet.specs.Packets.{FinePacket, Became, missedOutcome, missedEnds, packetOutcome, packetEnds}
 
 module _ {policy key table keeper out table′ out′ : List ℕ} {r : LookupAnswer}

@@ -18,6 +18,7 @@ use Rattle.checks.specs.declared.refusal.Refusal.{Refusal}
 use Rattle.slots.specs.Slots.{slotCount, slots}
 use Rattle.slots.specs.Refusals.{WholeSlots}
 use Rattle.slots.proofs.SlotLaws.{slot-at}
+use Rattle.slots.proofs.FitLaws.{as-whole}
 use Rattle.slots.proofs.ByteSlots.{slot-byte}
 use Rattle.messages.specs.Writes.{decodeWrite, encodeWrite, WriteFits}
 use Rattle.messages.specs.Reports.{decodeReport, encodeReport, ReportFits}
@@ -36,10 +37,6 @@ use Rattle.sending.specs.Sending.{endsIn, WholeEnds, sentEnds}
 -- ends with the same slots are the same
 pub same-ends : {a b : Ends} → a .keeper ≡ b .keeper → a .table ≡ b .table → a ≡ b
 same-ends p q i = record { keeper = p i; table = q i }
-
--- a buffer as long as one of whole slots is one
-pub as-whole : {a b : List ℕ} → length b ≡ length a → WholeSlots a → WholeSlots b
-as-whole e h = record { whole = rw e (h .whole); some-there = rw e (h .some-there); few-there = rw e (h .few-there) }
 
 -- ---- a report goes to the keeper
 

@@ -42,3 +42,7 @@ module _ (bs : List ℕ) where
   pub slots-accepted : (slotsRefusal bs ≡ none) ↔ WholeSlots bs
   unfolding slotsRefusal
   slots-accepted = (λ e. fit-whole (need-none (slotsFit bs) badSlots none e .0), λ h. rw (whole-fit h))
+
+-- a buffer as long as one of whole slots is one
+pub as-whole : {a b : List ℕ} → length b ≡ length a → WholeSlots a → WholeSlots b
+as-whole e h = record { whole = rw e (h .whole); some-there = rw e (h .some-there); few-there = rw e (h .few-there) }

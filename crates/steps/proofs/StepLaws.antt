@@ -18,13 +18,13 @@ use Rattle.buffers.proofs.RowLaws.{spelled-more, length-spelled}
 use Rattle.records.specs.Layout.{outcomeSize, traceSize, mostPackets}
 use Rattle.records.specs.Traces.{packetCount, keyIn, keys, decodeTrace}
 use Rattle.records.proofs.TraceLaws.{packet-count, key-at}
+use Rattle.slots.proofs.FitLaws.{as-whole}
 use Rattle.outcomes.specs.Outcomes.{encodeOutcome}
 use Rattle.outcomes.proofs.OutcomeLaws.{length-outcome}
 use Rattle.totals.specs.Sums.{mostTotal, AtMost}
 use Rattle.totals.proofs.SumLaws.{after-most}
 use Rattle.decisions.specs.Decided.{deciding}
 use Rattle.sending.specs.Sending.{endsIn}
-use Rattle.sending.proofs.SentLaws.{as-whole}
 use Rattle.packet.specs.Packets.{FinePacket, Became, packetOutcome, packetEnds}
 use Rattle.steps.specs.Steps.{RunFits, Stepped, toldBy, endsAfter, RanOver}
 

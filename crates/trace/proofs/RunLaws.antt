@@ -21,13 +21,12 @@ use Rattle.checks.proofs.RefusalLaws.{none-first, need-none}
 use Rattle.slots.specs.Slots.{encodeSlot, slots}
 use Rattle.slots.specs.Refusals.{slotsRefusal, WholeSlots}
 use Rattle.slots.proofs.SlotLaws.{slots-spell}
-use Rattle.slots.proofs.FitLaws.{slots-accepted}
+use Rattle.slots.proofs.FitLaws.{slots-accepted, as-whole}
 use Rattle.policy.specs.Refusals.{policyRefusal}
 use Rattle.policy.proofs.CheckLaws.{passed-few}
 use Rattle.totals.specs.declared.Totals.{Totals as TotalsStruct}
 use Rattle.totals.specs.Sums.{asTotals, mostTotal, totalsFit, AtMost}
 use Rattle.totals.proofs.SumLaws.{fit-most}
-use Rattle.sending.proofs.SentLaws.{as-whole}
 use Rattle.steps.specs.Steps.{RunFits, RanOver}
 use Rattle.run_refusals.specs.Refusals.{traceRefusal, endsRefusal, runRefusal, partsOf}
 use Rattle.run_refusals.proofs.PartLaws.{of-refused}
