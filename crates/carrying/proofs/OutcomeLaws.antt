@@ -3,9 +3,9 @@ use mathlib.Core.Path.{_≡_, refl, ap, _∙_}
 use mathlib.Core.Bool.{true, false}
 use mathlib.Core.List.{List}
 use Prim.Native.Nat.{ℕ}
-use Rattle.model.specs.Records.{Slot, Outcome, Entry, slotAt}
-use Rattle.model.specs.Ends.{Decisions, noRule, again, place, usedUp, isEmpty}
-use Rattle.model.specs.Trace.{missOutcome}
+use Rattle.ends.specs.Records.{Slot, Outcome, Entry, slotAt}
+use Rattle.ends.specs.Ends.{Decisions, noRule, again, place, usedUp, isEmpty}
+use Rattle.ends.specs.Trace.{missOutcome}
 use Rattle.model.proofs.Cases.{by-cases}
 use Rattle.outcomes.specs.Outcomes.{asOutcome, givesWrite}
 use Rattle.outcomes.specs.declared.Outcome.{Outcome as OutcomeStruct}

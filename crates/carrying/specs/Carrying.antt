@@ -6,7 +6,7 @@ use mathlib.Core.Option.{Option, none, some}
 use Prim.Native.Nat.{ℕ}
 use lib.Dec.{ltb, eqb}
 use lib.ListN.{length, set}
-use Rattle.model.specs.Records.{Write, Outcome, written, entryIn}
+use Rattle.ends.specs.Records.{Write, Outcome, written, entryIn}
 use Rattle.model.specs.Refusals.{shortOutput}
 use Rattle.ternary.specs.Sizes.{keySize}
 use Rattle.buffers.specs.Parts.{splice}

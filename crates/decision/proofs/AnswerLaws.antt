@@ -8,10 +8,10 @@ use native.Mathlib.Omega.{arith}
 use lib.ListN.{length}
 use borrow.Author.Tests.{eq-eqb}
 use Rattle.model.specs.Policy.{best}
-use Rattle.model.specs.Ends.{firstFor}
-use Rattle.model.specs.Show.{Shown, slotShown, ruleShown, nothingShown, shown, ShownFor}
-use Rattle.model.proofs.Show.{shown-for}
-use Rattle.model.proofs.Slots.{found}
+use Rattle.ends.specs.Ends.{firstFor}
+use Rattle.ends.specs.Show.{Shown, slotShown, ruleShown, nothingShown, shown, ShownFor}
+use Rattle.ends.proofs.Show.{shown-for}
+use Rattle.ends.proofs.Slots.{found}
 use Rattle.ternary.specs.Sizes.{keySize, positions}
 use Rattle.records.specs.Layout.{mostSlots}
 use Rattle.records.specs.Rules.{ruleCount, rules}

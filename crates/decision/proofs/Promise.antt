@@ -4,8 +4,8 @@ use mathlib.Core.List.{List}
 use mathlib.Core.Option.{none}
 use Prim.Native.Nat.{ℕ, _*_}
 use native.Mathlib.Omega.{arith}
-use Rattle.model.specs.Show.{slotShown, ruleShown, nothingShown}
-use Rattle.model.proofs.Show.{shown-for}
+use Rattle.ends.specs.Show.{slotShown, ruleShown, nothingShown}
+use Rattle.ends.proofs.Show.{shown-for}
 use Rattle.ternary.specs.Sizes.{keySize, positions}
 use Rattle.buffers.proofs.PartLaws.{part-length}
 use Rattle.records.specs.Layout.{ruleSize, slotSize}

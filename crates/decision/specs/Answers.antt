@@ -2,7 +2,7 @@
 use mathlib.Core.List.{List, []}
 use mathlib.Core.Option.{Option, none, some}
 use Prim.Native.Nat.{ℕ}
-use Rattle.model.specs.Show.{Shown, slotShown, ruleShown, nothingShown, shown}
+use Rattle.ends.specs.Show.{Shown, slotShown, ruleShown, nothingShown, shown}
 use Rattle.ternary.specs.Sizes.{keySize, positions}
 use Rattle.buffers.specs.Parts.{chunk}
 use Rattle.records.specs.Layout.{ruleSize, slotSize}

@@ -6,7 +6,7 @@ use mathlib.Core.Option.{none, some}
 use Prim.Native.Nat.{ℕ}
 use lib.ListN.{length}
 use Rattle.model.specs.Policy.{best}
-use Rattle.model.specs.Ends.{LowestFor, NoneFor}
+use Rattle.ends.specs.Ends.{LowestFor, NoneFor}
 use Rattle.ternary.specs.Sizes.{keySize, positions}
 use Rattle.records.specs.Layout.{ruleSize, slotSize}
 use Rattle.records.specs.Rules.{rules}

@@ -4,9 +4,9 @@ use mathlib.Core.List.{List}
 use mathlib.Core.Logic.{_≢_}
 use Prim.Native.Nat.{ℕ, _<_}
 use borrow.Author.Tests.{eq-eqb, ne-eqb}
-use Rattle.model.specs.Records.{Slot, slotAt}
-use Rattle.model.specs.Ends.{again}
-use Rattle.model.specs.Trace.{nothing}
+use Rattle.ends.specs.Records.{Slot, slotAt}
+use Rattle.ends.specs.Ends.{again}
+use Rattle.ends.specs.Trace.{nothing}
 use Rattle.ternary.specs.Sizes.{keySize}
 use Rattle.slots.specs.Slots.{slotCount, slotIn, slots}
 use Rattle.slots.proofs.SlotLaws.{slot-at}

@@ -4,9 +4,9 @@ use mathlib.Core.Bool.{cond}
 use mathlib.Core.List.{List}
 use mathlib.Core.Option.{Option, none, some}
 use Prim.Native.Nat.{ℕ, _<_}
-use Rattle.model.specs.Records.{Slot, Write, Outcome, slotAt}
-use Rattle.model.specs.Ends.{Decisions, byPolicy, isEmpty, Miss, missWrite}
-use Rattle.model.specs.Trace.{nothing, missOutcome}
+use Rattle.ends.specs.Records.{Slot, Write, Outcome, slotAt}
+use Rattle.ends.specs.Ends.{Decisions, byPolicy, isEmpty, Miss, missWrite}
+use Rattle.ends.specs.Trace.{nothing, missOutcome}
 use Rattle.ternary.specs.Sizes.{keySize, positions}
 use Rattle.records.specs.Rules.{rules}
 use Rattle.slots.specs.Slots.{slotCount, slots}

@@ -7,7 +7,7 @@ use slots::slot::slot_at;
 ghost use mathlib.Core.Path.{_≡_};
 ghost use mathlib.Core.List.{List};
 ghost use Prim.Native.Nat.{ℕ, _≤_, _<_};
-ghost use Rattle.model.specs.Ends.{again};
+ghost use Rattle.ends.specs.Ends.{again};
 ghost use Rattle.ternary.specs.Sizes.{keySize};
 ghost use Rattle.records.specs.Layout.{mostSlots};
 ghost use Rattle.slots.specs.Slots.{slotCount, slots};

@@ -7,8 +7,8 @@ use native.Mathlib.Omega.{arith}
 use lib.ListN.{length}
 use lib.Seq.{getD-set-same}
 use borrow.Author.Tests.{lt-ltb, le-ltb}
-use Rattle.model.specs.Records.{Slot, Write, slotAt, cleared, entryIn, written}
-use Rattle.model.specs.Ends.{isNewer, afterWrite}
+use Rattle.ends.specs.Records.{Slot, Write, slotAt, cleared, entryIn, written}
+use Rattle.ends.specs.Ends.{isNewer, afterWrite}
 use Rattle.ternary.specs.Sizes.{keySize}
 use Rattle.slots.specs.Slots.{slotCount, slotIn, slots}
 use Rattle.slots.proofs.SlotLaws.{slot-count, slot-at}

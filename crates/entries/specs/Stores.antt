@@ -3,8 +3,8 @@ use mathlib.Core.Path.{_≡_}
 use mathlib.Core.Bool.{cond}
 use mathlib.Core.List.{List}
 use Prim.Native.Nat.{ℕ}
-use Rattle.model.specs.Records.{Slot, Write, slotAt, entryIn, written}
-use Rattle.model.specs.Ends.{isNewer, afterWrite}
+use Rattle.ends.specs.Records.{Slot, Write, slotAt, entryIn, written}
+use Rattle.ends.specs.Ends.{isNewer, afterWrite}
 use Rattle.ternary.specs.Sizes.{keySize}
 use Rattle.slots.specs.Slots.{slots, putSlot}
 

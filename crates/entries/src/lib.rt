@@ -5,7 +5,7 @@ use messages::write::Write;
 use slots::slot::Slot;
 ghost use mathlib.Core.Path.{_≡_};
 ghost use Prim.Native.Nat.{_<_};
-ghost use Rattle.model.specs.Records.{entryIn, written as newlyWritten};
+ghost use Rattle.ends.specs.Records.{entryIn, written as newlyWritten};
 ghost use Rattle.ternary.specs.Sizes.{keySize};
 ghost use Rattle.slots.specs.Slots.{slotCount};
 ghost use Rattle.slots.specs.Structs.{asSlot};

@@ -2,8 +2,8 @@
 use mathlib.Core.Path.{_≡_}
 use mathlib.Core.List.{List}
 use Prim.Native.Nat.{ℕ}
-use Rattle.model.specs.Records.{Slot}
-use Rattle.model.specs.Ends.{counted}
+use Rattle.ends.specs.Records.{Slot}
+use Rattle.ends.specs.Ends.{counted}
 use Rattle.ternary.specs.Sizes.{keySize}
 use Rattle.slots.specs.Slots.{slotIn, SlotPut}
 

@@ -3,7 +3,7 @@ use records::layout;
 use slots::slot::Slot;
 ghost use mathlib.Core.Path.{_≡_};
 ghost use Prim.Native.Nat.{_<_};
-ghost use Rattle.model.specs.Ends.{counted as oneMore};
+ghost use Rattle.ends.specs.Ends.{counted as oneMore};
 ghost use Rattle.ternary.specs.Sizes.{keySize};
 ghost use Rattle.slots.specs.Slots.{slotCount};
 ghost use Rattle.slots.specs.Structs.{asSlot};

@@ -6,7 +6,7 @@ use Prim.Native.Nat.{ℕ, _+_, _*_, _<_}
 use native.Mathlib.Omega.{arith}
 use lib.Dec.{eqb}
 use Rattle.model.specs.Pattern.{matches}
-use Rattle.model.specs.Ends.{holds}
+use Rattle.ends.specs.Ends.{holds}
 use Rattle.buffers.specs.Numbers.{be}
 use Rattle.buffers.specs.Parts.{part}
 use Rattle.buffers.proofs.PartLaws.{part-part}

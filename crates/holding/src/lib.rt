@@ -3,7 +3,7 @@ use records::layout;
 ghost use mathlib.Core.Path.{_≡_};
 ghost use Prim.Native.Nat.{_<_};
 ghost use lib.ListN.{length};
-ghost use Rattle.model.specs.Ends.{holds, firstFor};
+ghost use Rattle.ends.specs.Ends.{holds, firstFor};
 ghost use Rattle.ternary.specs.Sizes.{keySize, positions};
 ghost use Rattle.slots.specs.Slots.{slotCount, slots};
 ghost use Rattle.holding.specs.Holding.{holdingOf};

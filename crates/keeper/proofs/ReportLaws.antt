@@ -9,8 +9,8 @@ use native.Mathlib.Omega.{arith}
 use lib.Dec.{leb, eqb}
 use lib.ListN.{length, getD}
 use borrow.Author.Tests.{eqb-true, eq-eqb, ne-eqb, leb-false, le-leb, lt-leb, lt-ltb, le-ltb}
-use Rattle.model.specs.Records.{Slot, Report}
-use Rattle.model.specs.Ends.{refuse, reportRefusal}
+use Rattle.ends.specs.Records.{Slot, Report}
+use Rattle.ends.specs.Ends.{refuse, reportRefusal}
 use Rattle.model.specs.Refusals.{ragged, wrongKind, badRecord, noSuchSlot, sequenceZero, reportAhead}
 use Rattle.ternary.specs.Sizes.{keySize}
 use Rattle.records.specs.Layout.{reportKind, reportZero, reportSize, isReport}

@@ -6,7 +6,7 @@ use mathlib.Core.Option.{Option, none, some}
 use Prim.Native.Nat.{ℕ}
 use lib.Dec.{eqb}
 use lib.ListN.{length, getD}
-use Rattle.model.specs.Ends.{reportRefusal, afterReport}
+use Rattle.ends.specs.Ends.{reportRefusal, afterReport}
 use Rattle.model.specs.Refusals.{ragged, wrongKind, badRecord}
 use Rattle.ternary.specs.Sizes.{keySize}
 use Rattle.records.specs.Layout.{reportKind, reportSize, isReport}

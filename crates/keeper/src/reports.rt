@@ -8,7 +8,7 @@ use numbers::wide;
 use records::layout;
 ghost use mathlib.Core.Path.{_≡_};
 ghost use mathlib.Core.Option.{some};
-ghost use Rattle.model.specs.Ends.{reportRefusal};
+ghost use Rattle.ends.specs.Ends.{reportRefusal};
 ghost use Rattle.ternary.specs.Sizes.{keySize};
 ghost use Rattle.checks.specs.Refusals.{refusal as refusalAt};
 ghost use Rattle.slots.specs.Slots.{slots};

@@ -6,7 +6,7 @@ use native.Mathlib.Omega.{arith}
 use borrow.Author.Tests.{eq-eqb, ne-eqb}
 use lib.ListN.{length, drop, getD, set, length-set}
 use lib.Seq.{drop-cons, drop-length, getD-set-same, drop-set-lt}
-use Rattle.model.specs.Trace.{nothing}
+use Rattle.ends.specs.Trace.{nothing}
 use Rattle.line.specs.Decimal.{mostDigits, digit, decimalIn, decimal}
 use Rattle.line.specs.Line.{wordSize, lineSize, textOf, Says, WordPut}
 use Rattle.line.specs.Words.{dash, orDash}

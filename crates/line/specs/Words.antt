@@ -3,7 +3,7 @@ use mathlib.Core.Bool.{cond}
 use mathlib.Core.List.{List, [], _∷_}
 use Prim.Native.Nat.{ℕ}
 use lib.Dec.{eqb}
-use Rattle.model.specs.Trace.{nothing}
+use Rattle.ends.specs.Trace.{nothing}
 use Rattle.line.specs.Decimal.{decimal}
 
 abbrev pub dash : ℕ

@@ -1,7 +1,7 @@
 -- The lines that the program prints. Assumes nothing.
 use mathlib.Core.List.{List, [], _∷_, _++_}
 use Prim.Native.Nat.{ℕ}
-use Rattle.model.specs.Records.{Outcome, Totals}
+use Rattle.ends.specs.Records.{Outcome, Totals}
 use Rattle.line.specs.Decimal.{decimal}
 use Rattle.line.specs.Words.{orDash}
 

@@ -6,10 +6,10 @@ use Prim.Native.Nat.{ℕ, _<_}
 use native.Mathlib.Omega.{arith}
 use lib.ListN.{length, set}
 use Rattle.model.specs.Bits.{Bytes}
-use Rattle.model.specs.Records.{Slot, Report, Totals, written, slotAt}
-use Rattle.model.specs.Ends.{Miss, noRule, again, place, usedUp, missKeeper, isCurrent, confirmed, afterReport}
-use Rattle.model.specs.Trace.{Ends}
-use Rattle.model.specs.Totals.{totalsAfter}
+use Rattle.ends.specs.Records.{Slot, Report, Totals, written, slotAt}
+use Rattle.ends.specs.Ends.{Miss, noRule, again, place, usedUp, missKeeper, isCurrent, confirmed, afterReport}
+use Rattle.ends.specs.Trace.{Ends}
+use Rattle.ends.specs.Totals.{totalsAfter}
 use Rattle.model.proofs.Cases.{by-cases}
 use Rattle.ternary.specs.Sizes.{keySize}
 use Rattle.buffers.specs.Parts.{splice, spelled}

@@ -6,8 +6,8 @@ use mathlib.Core.Option.{Option, none, some, Option·map}
 use Prim.Native.Nat.{ℕ, suc, _≤_}
 use native.Mathlib.Omega.{arith}
 use lib.ListN.{length, take, getElem?}
-use Rattle.model.specs.Records.{Write, Report}
-use Rattle.model.specs.World.{sent}
+use Rattle.ends.specs.Records.{Write, Report}
+use Rattle.ends.specs.World.{sent}
 use Rattle.ternary.specs.Sizes.{keySize}
 use Rattle.buffers.specs.Parts.{splice}
 use Rattle.records.specs.Layout.{writeSize, reportSize}

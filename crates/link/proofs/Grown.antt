@@ -6,15 +6,15 @@ use mathlib.Core.List.{List, [], _∷_, _++_, List·Memᴰ, List·Memᴰ·head, 
 use mathlib.Core.Option.{Option, none, some}
 use Prim.Native.Nat.{ℕ}
 use lib.ListN.{getElem?}
-use Rattle.model.specs.Records.{Write, Report}
-use Rattle.model.specs.Ends.{Key, Decisions, lookup, onMiss, missWrite, writeRefusal, writeReport, reportRefusal}
-use Rattle.model.specs.World.{World, Event, miss, writeArrives, reportArrives, packet, refused, start, step, run}
-use Rattle.model.specs.World.{sent, hitReport, unless, tableTakes, keeperTakes, deliverWrite, deliverReport}
-use Rattle.model.specs.Promise.{Kept}
-use Rattle.model.specs.Trace.{Ends, trace}
-use Rattle.model.specs.TraceLink.{endsOf}
-use Rattle.model.proofs.Promise.{arrived}
-use Rattle.model.proofs.TraceLink.{run-append, grown-by-run}
+use Rattle.ends.specs.Records.{Write, Report}
+use Rattle.ends.specs.Ends.{Key, Decisions, lookup, onMiss, missWrite, writeRefusal, writeReport, reportRefusal}
+use Rattle.ends.specs.World.{World, Event, miss, writeArrives, reportArrives, packet, refused, start, step, run}
+use Rattle.ends.specs.World.{sent, hitReport, unless, tableTakes, keeperTakes, deliverWrite, deliverReport}
+use Rattle.ends.specs.Promise.{Kept}
+use Rattle.ends.specs.Trace.{Ends, trace}
+use Rattle.ends.specs.TraceLink.{endsOf}
+use Rattle.ends.proofs.Promise.{arrived}
+use Rattle.ends.proofs.TraceLink.{run-append, grown-by-run}
 use Rattle.ternary.specs.Sizes.{keySize, positions}
 use Rattle.link.proofs.Given.{member-place}
 

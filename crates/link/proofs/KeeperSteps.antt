@@ -9,11 +9,11 @@ use lib.Dec.{ltb}
 use lib.ListN.{length}
 use borrow.Author.Tests.{ltb-false}
 use Rattle.model.specs.Bits.{Bytes}
-use Rattle.model.specs.Records.{Slot, Report, written, slotAt, entryAt, writeFor}
-use Rattle.model.specs.Ends.{Decisions, Miss, noRule, again, place, usedUp, isEmpty, missWrite, isCurrent, confirmed, reportRefusal}
+use Rattle.ends.specs.Records.{Slot, Report, written, slotAt, entryAt, writeFor}
+use Rattle.ends.specs.Ends.{Decisions, Miss, noRule, again, place, usedUp, isEmpty, missWrite, isCurrent, confirmed, reportRefusal}
 use Rattle.model.specs.Refusals.{shortOutput}
-use Rattle.model.specs.World.{miss as missEvent, reportArrives, step}
-use Rattle.model.specs.Trace.{missOutcome}
+use Rattle.ends.specs.World.{miss as missEvent, reportArrives, step}
+use Rattle.ends.specs.Trace.{missOutcome}
 use Rattle.model.proofs.Cases.{by-cases, cond-elim, not-true}
 use Rattle.ternary.specs.Sizes.{keySize}
 use Rattle.buffers.proofs.ByteLaws.{four-below}

@@ -6,9 +6,9 @@ use Prim.Native.Nat.{ℕ, _+_, _*_, _≤_, _<_}
 use native.Mathlib.Omega.{arith}
 use lib.ListN.{length}
 use Rattle.model.specs.Bits.{Bytes}
-use Rattle.model.specs.Records.{Write, Report}
-use Rattle.model.specs.Ends.{Decisions}
-use Rattle.model.specs.World.{World, Event, refused, sent, step}
+use Rattle.ends.specs.Records.{Write, Report}
+use Rattle.ends.specs.Ends.{Decisions}
+use Rattle.ends.specs.World.{World, Event, refused, sent, step}
 use Rattle.ternary.specs.Sizes.{keySize, positions}
 use Rattle.records.specs.Layout.{slotSize, mostSlots}
 use Rattle.slots.specs.Slots.{slotCount, slots}

@@ -6,7 +6,7 @@ use Prim.Native.Nat.{ℕ, _≤_}
 use native.Mathlib.Omega.{arith}
 use lib.ListN.{length, take, drop, getD}
 use Rattle.model.specs.Bits.{Bytes}
-use Rattle.model.specs.Records.{Write, Report}
+use Rattle.ends.specs.Records.{Write, Report}
 use Rattle.ternary.specs.Sizes.{keySize}
 use Rattle.buffers.specs.Numbers.{toBe}
 use Rattle.buffers.specs.Parts.{splice}

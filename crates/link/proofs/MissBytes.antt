@@ -9,14 +9,14 @@ use lib.Dec.{ltb, eqb}
 use lib.ListN.{length}
 use borrow.Author.Tests.{eqb-false, ltb-true, ltb-false}
 use Rattle.model.specs.Bits.{Bytes, bitAt}
-use Rattle.model.specs.Records.{Slot, writeFor, written, entryOf, slotAt}
+use Rattle.ends.specs.Records.{Slot, writeFor, written, entryOf, slotAt}
 use Rattle.model.specs.Policy.{Rule, ruleAt, best}
 use Rattle.model.specs.Isolate.{isolatedAt, isolate}
-use Rattle.model.specs.Ends.{firstFor, top, largest, roomIn, Miss, noRule, again, place, usedUp, missOf, nextEntry, onMiss}
+use Rattle.ends.specs.Ends.{firstFor, top, largest, roomIn, Miss, noRule, again, place, usedUp, missOf, nextEntry, onMiss}
 use Rattle.model.proofs.Cases.{by-cases}
 use Rattle.model.proofs.BitLaws.{bit-lt, length-with}
 use Rattle.model.proofs.PolicyLaws.{best-iff}
-use Rattle.model.proofs.Slots.{found, largest-le, roomIn-lt, live-inside}
+use Rattle.ends.proofs.Slots.{found, largest-le, roomIn-lt, live-inside}
 use Rattle.ternary.specs.Sizes.{keySize, positions}
 use Rattle.buffers.proofs.PartLaws.{part-bytes}
 use Rattle.buffers.proofs.ByteLaws.{fixed-bytes, two-below}

@@ -6,12 +6,12 @@ use Prim.Native.Nat.{ℕ, _^_, _≤_, _<_}
 use native.Mathlib.Omega.{arith}
 use lib.ListN.{set}
 use Rattle.model.specs.Bits.{Bytes}
-use Rattle.model.specs.Records.{Slot, Write, Report, entryIn, writeFor, written, reportFor, slotAt, entryAt}
-use Rattle.model.specs.Ends.{Key, firstFor, counted, Miss, noRule, again, place, usedUp, onMiss, missKeeper, missWrite}
-use Rattle.model.specs.Ends.{writeRefusal, isNewer, afterWrite, writeReport, reportRefusal, isCurrent, afterReport}
-use Rattle.model.specs.Trace.{Ends, reportedTo, writtenTo, sentTo, packetEnds, onePacket, trace}
+use Rattle.ends.specs.Records.{Slot, Write, Report, entryIn, writeFor, written, reportFor, slotAt, entryAt}
+use Rattle.ends.specs.Ends.{Key, firstFor, counted, Miss, noRule, again, place, usedUp, onMiss, missKeeper, missWrite}
+use Rattle.ends.specs.Ends.{writeRefusal, isNewer, afterWrite, writeReport, reportRefusal, isCurrent, afterReport}
+use Rattle.ends.specs.Trace.{Ends, reportedTo, writtenTo, sentTo, packetEnds, onePacket, trace}
 use Rattle.model.proofs.Cases.{cond-elim}
-use Rattle.model.proofs.Slots.{found}
+use Rattle.ends.proofs.Slots.{found}
 use Rattle.ternary.specs.Sizes.{keySize, positions}
 use Rattle.slots.proofs.ByteSlots.{ByteSlot, with-byte, counted-byte, confirmed-byte}
 use Rattle.slots.proofs.SlotBytes.{ByteSlots, set-byte, hits-low}

@@ -10,14 +10,14 @@ use lib.ListN.{length, take}
 use lib.Seq.{take-all}
 use borrow.Author.Tests.{eq-eqb, le-ltb}
 use Rattle.model.specs.Bits.{Bytes}
-use Rattle.model.specs.Records.{Slot, entryOf, entryAt}
-use Rattle.model.specs.Ends.{Key, Decisions, Hit, lookup}
-use Rattle.model.specs.World.{World}
-use Rattle.model.specs.Promise.{Kept}
-use Rattle.model.specs.Trace.{trace}
-use Rattle.model.specs.TraceLink.{endsOf, NoInnerRefusal}
-use Rattle.model.proofs.Promise.{promise}
-use Rattle.model.proofs.TraceLink.{inner-promise}
+use Rattle.ends.specs.Records.{Slot, entryOf, entryAt}
+use Rattle.ends.specs.Ends.{Key, Decisions, Hit, lookup}
+use Rattle.ends.specs.World.{World}
+use Rattle.ends.specs.Promise.{Kept}
+use Rattle.ends.specs.Trace.{trace}
+use Rattle.ends.specs.TraceLink.{endsOf, NoInnerRefusal}
+use Rattle.ends.proofs.Promise.{promise}
+use Rattle.ends.proofs.TraceLink.{inner-promise}
 use Rattle.ternary.specs.Sizes.{keySize, positions}
 use Rattle.buffers.specs.Numbers.{be}
 use Rattle.buffers.specs.Parts.{part}

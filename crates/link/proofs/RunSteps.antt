@@ -5,9 +5,9 @@ use mathlib.Core.Option.{Option, none, some}
 use Prim.Native.Nat.{ℕ, _*_}
 use lib.ListN.{length}
 use Rattle.model.specs.Bits.{Bytes}
-use Rattle.model.specs.Records.{Slot, Totals}
-use Rattle.model.specs.Ends.{Decisions}
-use Rattle.model.specs.Trace.{Ends}
+use Rattle.ends.specs.Records.{Slot, Totals}
+use Rattle.ends.specs.Ends.{Decisions}
+use Rattle.ends.specs.Trace.{Ends}
 use Rattle.ternary.specs.Sizes.{keySize}
 use Rattle.buffers.specs.Parts.{spelled}
 use Rattle.records.specs.Layout.{slotSize}

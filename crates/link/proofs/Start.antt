@@ -5,8 +5,8 @@ use Prim.Native.Nat.{ℕ, zero, suc, _+_, _*_, _-_, _≤_, _<_}
 use native.Mathlib.Omega.{arith}
 use lib.ListN.{length, getD, replicate, length-replicate, getD-replicate, replicate-append-replicate}
 use lib.Seq.{take-at, drop-at, ext-getD}
-use Rattle.model.specs.Records.{cleared}
-use Rattle.model.specs.World.{start}
+use Rattle.ends.specs.Records.{cleared}
+use Rattle.ends.specs.World.{start}
 use Rattle.ternary.specs.Sizes.{keySize}
 use Rattle.buffers.specs.Numbers.{be}
 use Rattle.buffers.specs.Parts.{chunk}

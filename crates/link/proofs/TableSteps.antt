@@ -5,10 +5,10 @@ use mathlib.Core.Option.{Option, none, some}
 use Prim.Native.Nat.{ℕ, _<_}
 use native.Mathlib.Omega.{arith}
 use lib.ListN.{length}
-use Rattle.model.specs.Records.{Slot, Write, Report, reportFor, slotAt}
-use Rattle.model.specs.Ends.{Decisions, firstFor, counted, hitAt, lookup, writeReport}
-use Rattle.model.specs.World.{packet, writeArrives, hitReport, step}
-use Rattle.model.proofs.Slots.{found}
+use Rattle.ends.specs.Records.{Slot, Write, Report, reportFor, slotAt}
+use Rattle.ends.specs.Ends.{Decisions, firstFor, counted, hitAt, lookup, writeReport}
+use Rattle.ends.specs.World.{packet, writeArrives, hitReport, step}
+use Rattle.ends.proofs.Slots.{found}
 use Rattle.ternary.specs.Sizes.{keySize, positions}
 use Rattle.records.specs.Layout.{mostSlots}
 use Rattle.checks.specs.declared.refusal.Refusal.{Refusal}

@@ -4,7 +4,7 @@ use mathlib.Core.List.{List}
 use mathlib.Core.Option.{none}
 use Prim.Native.Nat.{ℕ, _≤_}
 use Rattle.model.specs.Bits.{Bytes}
-use Rattle.model.specs.Records.{Totals}
+use Rattle.ends.specs.Records.{Totals}
 use Rattle.records.specs.Layout.{mostSlots}
 use Rattle.policy.specs.Refusals.{policyRefusal}
 use Rattle.table.specs.Lookups.{LookedUp}

@@ -6,8 +6,8 @@ use mathlib.Core.List.{List, [], _∷_, List·Memᴰ}
 use mathlib.Core.Option.{Option, none, some}
 use Prim.Native.Nat.{ℕ, _*_}
 use lib.ListN.{length, take, replicate}
-use Rattle.model.specs.Records.{Totals}
-use Rattle.model.specs.World.{sent}
+use Rattle.ends.specs.Records.{Totals}
+use Rattle.ends.specs.World.{sent}
 use Rattle.ternary.specs.Sizes.{keySize}
 use Rattle.records.specs.Layout.{slotSize, writeSize, reportSize}
 -- what the calls promise and when they refuse

@@ -6,7 +6,7 @@ use mathlib.Core.Option.{none}
 use Prim.Native.Nat.{ℕ, _*_, _≤_, _<_}
 use lib.ListN.{length}
 use Rattle.model.specs.Bits.{Bytes}
-use Rattle.model.specs.Records.{Entry, entryOf}
+use Rattle.ends.specs.Records.{Entry, entryOf}
 use Rattle.ternary.specs.Sizes.{keySize}
 use Rattle.buffers.specs.Numbers.{be}
 use Rattle.buffers.specs.Parts.{part}

@@ -5,8 +5,8 @@ use mathlib.Core.Option.{none}
 use Prim.Native.Nat.{ℕ, _≤_, _<_}
 use lib.ListN.{take}
 use Rattle.model.specs.Bits.{Bytes}
-use Rattle.model.specs.Trace.{Ends}
-use Rattle.model.specs.TraceLink.{NoInnerRefusal}
+use Rattle.ends.specs.Trace.{Ends}
+use Rattle.ends.specs.TraceLink.{NoInnerRefusal}
 use Rattle.ternary.specs.Sizes.{keySize, positions}
 use Rattle.records.specs.Layout.{mostSlots}
 use Rattle.records.specs.Traces.{packetCount, keyIn, keys}

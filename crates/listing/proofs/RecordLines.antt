@@ -4,7 +4,7 @@ use mathlib.Core.List.{List, []}
 use Prim.Native.Nat.{ℕ, _+_, _-_, _*_, _≤_, _<_}
 use native.Mathlib.Omega.{arith}
 use lib.ListN.{length, take, drop, getD}
-use Rattle.model.specs.Records.{Outcome}
+use Rattle.ends.specs.Records.{Outcome}
 use Rattle.buffers.specs.Parts.{splice, chunk, recordsIn}
 use Rattle.buffers.proofs.PartLaws.{part-length}
 use Rattle.buffers.proofs.RecordLaws.{records-count, records-at}

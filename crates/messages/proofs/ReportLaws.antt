@@ -5,7 +5,7 @@ use mathlib.Core.List.{List}
 use native.Mathlib.Omega.{arith}
 use lib.ListN.{length, getD}
 use Rattle.model.specs.Bits.{Bytes}
-use Rattle.model.specs.Records.{Report}
+use Rattle.ends.specs.Records.{Report}
 use Rattle.buffers.proofs.NumberLaws.{be-toBe}
 use Rattle.buffers.proofs.FieldLaws.{number-then, number-last, pair-then}
 use Rattle.records.specs.Layout.{reportKind, reportZero, reportSlot, reportSequence, reportHits, reportSize, isReport}

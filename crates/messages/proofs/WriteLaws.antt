@@ -5,7 +5,7 @@ use mathlib.Core.List.{List, [], _∷_, _++_}
 use native.Mathlib.Omega.{arith}
 use lib.ListN.{length, take, drop, getD, length-append}
 use Rattle.model.specs.Bits.{Bytes}
-use Rattle.model.specs.Records.{Write}
+use Rattle.ends.specs.Records.{Write}
 use Rattle.buffers.specs.Numbers.{be, toBe}
 use Rattle.buffers.proofs.NumberLaws.{be-toBe}
 use Rattle.buffers.proofs.FieldLaws.{drop-past, part-past, byte-past, value-there, mask-there, after-rows}

@@ -1,5 +1,5 @@
 -- The code's structs as the model's records. Assumes nothing.
-use Rattle.model.specs.Records.{Write, Report}
+use Rattle.ends.specs.Records.{Write, Report}
 use Rattle.messages.specs.declared.write.Write.{Write as WriteStruct}
 use Rattle.messages.specs.declared.report.Report.{Report as ReportStruct}
 

@@ -3,7 +3,7 @@ use Prim.Native.Nat.{ℕ, _^_, _<_}
 use mathlib.Core.Path.{_≡_}
 use mathlib.Core.List.{List, [], _∷_, _++_}
 use lib.ListN.{length}
-use Rattle.model.specs.Records.{Write}
+use Rattle.ends.specs.Records.{Write}
 use Rattle.buffers.specs.Numbers.{be, toBe}
 use Rattle.buffers.specs.Parts.{part}
 use Rattle.records.specs.Layout.{writeSlot, writeSequence, writeValue, writeMask, writeAction, writeRule, isWrite}

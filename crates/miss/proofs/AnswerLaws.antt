@@ -9,8 +9,8 @@ use native.Mathlib.Omega.{arith}
 use lib.Dec.{eqb}
 use lib.ListN.{length, set}
 use borrow.Author.Tests.{eqb-true, eq-eqb, ne-eqb}
-use Rattle.model.specs.Records.{Slot, Write, Outcome, written, entryIn, writeFor, entryAt}
-use Rattle.model.specs.Ends.{Miss, noRule, again, place, usedUp, missWrite}
+use Rattle.ends.specs.Records.{Slot, Write, Outcome, written, entryIn, writeFor, entryAt}
+use Rattle.ends.specs.Ends.{Miss, noRule, again, place, usedUp, missWrite}
 use Rattle.model.specs.Refusals.{ragged, badSlots}
 use Rattle.ternary.specs.Sizes.{keySize}
 use Rattle.buffers.specs.Parts.{splice}

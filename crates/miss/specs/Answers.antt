@@ -6,9 +6,9 @@ use mathlib.Core.Option.{Option, none, some}
 use Prim.Native.Nat.{ℕ}
 use lib.Dec.{ltb}
 use lib.ListN.{length}
-use Rattle.model.specs.Records.{Write, written}
-use Rattle.model.specs.Ends.{Miss, noRule, again, place, usedUp, missKeeper, missWrite}
-use Rattle.model.specs.Trace.{missOutcome}
+use Rattle.ends.specs.Records.{Write, written}
+use Rattle.ends.specs.Ends.{Miss, noRule, again, place, usedUp, missKeeper, missWrite}
+use Rattle.ends.specs.Trace.{missOutcome}
 use Rattle.model.specs.Refusals.{shortOutput}
 use Rattle.ternary.specs.Sizes.{keySize}
 use Rattle.buffers.specs.Parts.{splice}

@@ -8,14 +8,6 @@ pub mod PolicyLaws
 pub mod RoundLaws
 pub mod Isolation
 pub mod SmallPolicy
-pub mod Slots
-pub mod Show
-pub mod Protocol
-pub mod Promise
-pub mod TraceLink
-pub mod InnerRefusals
-pub mod Totals
-pub mod SmallRuns
 -- for the proofs of code
 pub mod IsolateLaws
 pub mod BestLoop

@@ -10,8 +10,8 @@ use lib.Dec.{ltb}
 use lib.ListN.{length, take, set, length-set}
 use lib.Seq.{take-suc-set, length-take-le}
 use borrow.Author.Tests.{lt-ltb, le-ltb}
-use Rattle.model.specs.Records.{slotAt}
-use Rattle.model.specs.Ends.{isOpen, openList}
+use Rattle.ends.specs.Records.{slotAt}
+use Rattle.ends.specs.Ends.{isOpen, openList}
 use Rattle.model.specs.Refusals.{badSlots, shortOutput}
 use Rattle.model.proofs.BelowLaws.{count-le}
 use Rattle.model.proofs.OrderLaws.{length-listed, list-more}

@@ -6,7 +6,7 @@ use mathlib.Core.Option.{Option, none, some}
 use Prim.Native.Nat.{ℕ, _*_}
 use lib.Dec.{ltb}
 use lib.ListN.{length}
-use Rattle.model.specs.Ends.{openList}
+use Rattle.ends.specs.Ends.{openList}
 use Rattle.model.specs.Refusals.{shortOutput}
 use Rattle.ternary.specs.Sizes.{keySize}
 use Rattle.checks.specs.Refusals.{orElse, need}

@@ -5,7 +5,7 @@ use mathlib.Core.List.{List}
 use native.Mathlib.Omega.{arith}
 use lib.ListN.{length, getD}
 use Rattle.model.specs.Bits.{Bytes}
-use Rattle.model.specs.Records.{Outcome}
+use Rattle.ends.specs.Records.{Outcome}
 use Rattle.buffers.proofs.NumberLaws.{be-toBe}
 use Rattle.buffers.proofs.FieldLaws.{number-then, pair-then, pair-last}
 use Rattle.records.specs.Layout.{outcomeKind, outcomeZero, outcomeAction, outcomeRule, outcomeSlot, outcomeEvicted, outcomeSpare, outcomeSize}

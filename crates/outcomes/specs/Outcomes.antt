@@ -4,7 +4,7 @@ use mathlib.Core.Bool.{Bool, not, _&&_}
 use mathlib.Core.List.{List, [], _∷_, _++_}
 use lib.Dec.{eqb}
 use lib.ListN.{getD}
-use Rattle.model.specs.Records.{Outcome}
+use Rattle.ends.specs.Records.{Outcome}
 use Rattle.buffers.specs.Numbers.{be, toBe}
 use Rattle.buffers.specs.Parts.{part}
 use Rattle.outcomes.specs.declared.Outcome.{Outcome as OutcomeStruct}

@@ -7,10 +7,10 @@ use native.Mathlib.Omega.{arith}
 use lib.ListN.{length}
 use lib.Seq.{getD-set-same}
 use Rattle.model.specs.Bits.{Bytes}
-use Rattle.model.specs.Records.{Slot, Outcome, reportFor, slotAt, cleared}
-use Rattle.model.specs.Ends.{counted, firstFor, hitAt, countedAt, lookup, afterLookup}
-use Rattle.model.specs.Trace.{nothing, onePacket, oneOutcome}
-use Rattle.model.proofs.Slots.{found}
+use Rattle.ends.specs.Records.{Slot, Outcome, reportFor, slotAt, cleared}
+use Rattle.ends.specs.Ends.{counted, firstFor, hitAt, countedAt, lookup, afterLookup}
+use Rattle.ends.specs.Trace.{nothing, onePacket, oneOutcome}
+use Rattle.ends.proofs.Slots.{found}
 use Rattle.ternary.specs.Sizes.{keySize, positions}
 use Rattle.buffers.proofs.PartLaws.{splice-all}
 use Rattle.records.specs.Layout.{reportSize}

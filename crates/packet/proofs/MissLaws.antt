@@ -5,8 +5,8 @@ use mathlib.Core.List.{List}
 use mathlib.Core.Option.{none, some}
 use Prim.Native.Nat.{ℕ}
 use lib.ListN.{set}
-use Rattle.model.specs.Records.{Slot, Write, entryIn, written}
-use Rattle.model.specs.Ends.{Decisions, Miss, noRule, again, place, usedUp, missKeeper, missWrite}
+use Rattle.ends.specs.Records.{Slot, Write, entryIn, written}
+use Rattle.ends.specs.Ends.{Decisions, Miss, noRule, again, place, usedUp, missKeeper, missWrite}
 use Rattle.model.proofs.Cases.{clash}
 use Rattle.ternary.specs.Sizes.{keySize}
 use Rattle.slots.specs.Slots.{slots}

@@ -2,9 +2,9 @@
 use mathlib.Core.Path.{_≡_}
 use mathlib.Core.List.{List}
 use Prim.Native.Nat.{ℕ}
-use Rattle.model.specs.Records.{Outcome}
-use Rattle.model.specs.Ends.{missKeeper, missWrite}
-use Rattle.model.specs.Trace.{Ends, sentTo, onePacket, missOutcome, oneOutcome}
+use Rattle.ends.specs.Records.{Outcome}
+use Rattle.ends.specs.Ends.{missKeeper, missWrite}
+use Rattle.ends.specs.Trace.{Ends, sentTo, onePacket, missOutcome, oneOutcome}
 use Rattle.ternary.specs.Sizes.{keySize, positions}
 use Rattle.slots.specs.Slots.{slots}
 use Rattle.slots.specs.Refusals.{WholeSlots}

@@ -1,6 +1,6 @@
 -- Where a record lies that is shown, as numbers. Assumes nothing.
 use Prim.Native.Nat.{ℕ, _*_}
-use Rattle.model.specs.Trace.{nothing}
+use Rattle.ends.specs.Trace.{nothing}
 use Rattle.ternary.specs.Sizes.{keySize}
 use Rattle.records.specs.Layout.{ruleSize, slotSize}
 use Rattle.rule_records.specs.declared.RecordAnswer.{RecordAnswer}

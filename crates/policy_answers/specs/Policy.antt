@@ -1,5 +1,5 @@
 -- The numbers of the answers about a policy. Assumes nothing.
-use Rattle.model.specs.Trace.{nothing}
+use Rattle.ends.specs.Trace.{nothing}
 use Rattle.policy.specs.declared.PolicyAnswer.{PolicyAnswer}
 use Rattle.policy.specs.declared.PolicyAnswer.the-variants.{Refused as PolicyRefused, Rules}
 use Rattle.best.specs.declared.BestAnswer.{BestAnswer}

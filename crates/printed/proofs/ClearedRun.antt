@@ -9,8 +9,8 @@ use native.Mathlib.Omega.{arith}
 use borrow.Author.Tests.{le-leb, eq-eqb}
 use lib.Dec.{leb, eqb}
 use lib.ListN.{length, take, replicate, length-replicate}
-use Rattle.model.specs.Records.{Totals}
-use Rattle.model.specs.Totals.{clearedTotals, totalsAfter}
+use Rattle.ends.specs.Records.{Totals}
+use Rattle.ends.specs.Totals.{clearedTotals, totalsAfter}
 use Rattle.ternary.specs.Sizes.{keySize}
 use Rattle.buffers.specs.Parts.{spelled}
 use Rattle.records.specs.Layout.{outcomeSize, slotSize, mostSlots, mostPackets}

@@ -3,7 +3,7 @@ use mathlib.Core.Path.{_≡_, sym, _∙_}
 use mathlib.Core.List.{List, _++_}
 use mathlib.Core.Option.{some}
 use Prim.Native.Nat.{ℕ}
-use Rattle.model.specs.Records.{Totals}
+use Rattle.ends.specs.Records.{Totals}
 use Rattle.checks.specs.declared.refusal.Refusal.{Refusal}
 use Rattle.trace.specs.declared.RunAnswer.{RunAnswer}
 use Rattle.trace.specs.declared.RunAnswer.the-variants.{Refused, Packets}

@@ -4,8 +4,8 @@ use mathlib.Core.List.{List, _++_, map}
 use mathlib.Core.Option.{Option, none, some}
 use Prim.Native.Nat.{ℕ, _+_, _*_, _≤_}
 use lib.ListN.{replicate}
-use Rattle.model.specs.Records.{Outcome, Totals}
-use Rattle.model.specs.Totals.{clearedTotals, totalsAfter}
+use Rattle.ends.specs.Records.{Outcome, Totals}
+use Rattle.ends.specs.Totals.{clearedTotals, totalsAfter}
 use Rattle.ternary.specs.Sizes.{keySize}
 use Rattle.buffers.specs.Parts.{spelled}
 use Rattle.records.specs.Layout.{slotSize, mostPackets}

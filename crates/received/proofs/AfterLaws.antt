@@ -7,9 +7,9 @@ use Prim.Native.Nat.{ℕ, _+_, _*_, _≤_, _<_}
 use native.Mathlib.Omega.{arith}
 use lib.ListN.{length, set}
 use Rattle.model.specs.Bits.{Bytes}
-use Rattle.model.specs.Records.{Slot, slotAt, entryIn, written}
-use Rattle.model.specs.Ends.{counted, countedAt, firstFor, afterLookup, isNewer, afterWrite}
-use Rattle.model.proofs.Slots.{found}
+use Rattle.ends.specs.Records.{Slot, slotAt, entryIn, written}
+use Rattle.ends.specs.Ends.{counted, countedAt, firstFor, afterLookup, isNewer, afterWrite}
+use Rattle.ends.proofs.Slots.{found}
 use Rattle.ternary.specs.Sizes.{keySize, positions}
 use Rattle.buffers.specs.Parts.{spelled}
 use Rattle.buffers.proofs.PartLaws.{part-length, part-bytes}

@@ -11,7 +11,7 @@ use lib.Dec.{leb, eqb}
 use lib.ListN.{length, getD}
 use borrow.Author.Tests.{leb-false, eqb-true, eqb-false, le-leb, lt-leb, eq-eqb, ne-eqb}
 use Rattle.model.specs.Pattern.{canonical}
-use Rattle.model.specs.Ends.{firstFor, lookup, afterLookup, refuse, writeRefusal, afterWrite, writeReport}
+use Rattle.ends.specs.Ends.{firstFor, lookup, afterLookup, refuse, writeRefusal, afterWrite, writeReport}
 use Rattle.model.proofs.Cases.{not-false}
 use Rattle.ternary.specs.Sizes.{keySize, positions}
 use Rattle.buffers.specs.Parts.{splice}

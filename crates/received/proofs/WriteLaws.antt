@@ -10,8 +10,8 @@ use lib.Dec.{leb, ltb, eqb}
 use lib.ListN.{length, getD}
 use borrow.Author.Tests.{leb-true, ltb-true, eqb-true, eqb-false, le-leb, lt-ltb, eq-eqb, ne-eqb}
 use Rattle.model.specs.Bits.{Bytes}
-use Rattle.model.specs.Records.{Slot, Write, reportFor}
-use Rattle.model.specs.Ends.{afterWrite, writeReport}
+use Rattle.ends.specs.Records.{Slot, Write, reportFor}
+use Rattle.ends.specs.Ends.{afterWrite, writeReport}
 use Rattle.model.proofs.Cases.{not-true}
 use Rattle.ternary.specs.Sizes.{keySize}
 use Rattle.buffers.specs.Parts.{splice}

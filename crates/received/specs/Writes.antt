@@ -6,9 +6,9 @@ use mathlib.Core.Option.{Option, none, some}
 use Prim.Native.Nat.{ℕ, _≤_, _<_}
 use lib.Dec.{ltb, eqb}
 use lib.ListN.{length, getD}
-use Rattle.model.specs.Records.{Slot}
+use Rattle.ends.specs.Records.{Slot}
 use Rattle.model.specs.Refusals.{ragged, badRecord, wrongKind, noSuchSlot, sequenceZero}
-use Rattle.model.specs.Ends.{afterWrite, writeReport}
+use Rattle.ends.specs.Ends.{afterWrite, writeReport}
 use Rattle.ternary.specs.Sizes.{keySize}
 use Rattle.buffers.specs.Parts.{splice, spelled}
 use Rattle.records.specs.Layout.{writeKind, isWrite, writeSize, reportSize}

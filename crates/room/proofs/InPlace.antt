@@ -5,7 +5,7 @@ use Prim.Native.Nat.{ℕ, _+_, _*_, _<_}
 use native.Mathlib.Omega.{arith}
 use lib.ListN.{getD, drop}
 use lib.Seq.{getD-take, getD-drop}
-use Rattle.model.specs.Records.{slotAt}
+use Rattle.ends.specs.Records.{slotAt}
 use Rattle.ternary.specs.Sizes.{keySize}
 use Rattle.buffers.specs.Numbers.{be}
 use Rattle.buffers.specs.Parts.{part}

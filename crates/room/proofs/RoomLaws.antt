@@ -11,8 +11,8 @@ use lib.ListN.{length, drop}
 use lib.Seq.{drop-cons, drop-length}
 use borrow.Author.Tests.{eq-eqb, ne-eqb}
 use Rattle.model.specs.Below.{ahead, foremost}
-use Rattle.model.specs.Records.{Slot, slotAt, cleared}
-use Rattle.model.specs.Ends.{isEmpty, largest, givenUpBefore, givenUp, roomIn}
+use Rattle.ends.specs.Records.{Slot, slotAt, cleared}
+use Rattle.ends.specs.Ends.{isEmpty, largest, givenUpBefore, givenUp, roomIn}
 use Rattle.model.proofs.BelowLaws.{Passed, passed-none, passed-more}
 use Rattle.model.proofs.OrderLaws.{first-found, first-missed, foremost-next}
 use Rattle.ternary.specs.Sizes.{keySize}

@@ -4,8 +4,8 @@ use mathlib.Core.Option.{Option}
 use Prim.Native.Nat.{ℕ}
 use lib.ListN.{length}
 use Rattle.model.specs.Below.{firstBelow}
-use Rattle.model.specs.Records.{Slot, slotAt}
-use Rattle.model.specs.Ends.{isEmpty}
+use Rattle.ends.specs.Records.{Slot, slotAt}
+use Rattle.ends.specs.Ends.{isEmpty}
 
 -- the lowest empty slot
 abbrev pub firstEmpty : List Slot → Option ℕ

@@ -2,7 +2,7 @@
 use records::layout;
 ghost use mathlib.Core.Path.{_≡_};
 ghost use Prim.Native.Nat.{_<_};
-ghost use Rattle.model.specs.Records.{slotAt};
+ghost use Rattle.ends.specs.Records.{slotAt};
 ghost use Rattle.ternary.specs.Sizes.{keySize};
 ghost use Rattle.slots.specs.Slots.{slotCount, slots};
 

@@ -2,7 +2,7 @@
 use mathlib.Core.Path.{_≡_}
 use mathlib.Core.List.{List}
 use Prim.Native.Nat.{ℕ}
-use Rattle.model.specs.Records.{Totals}
+use Rattle.ends.specs.Records.{Totals}
 use Rattle.totals.specs.Sums.{asTotals}
 use Rattle.totals.specs.declared.Totals.{Totals as TotalsStruct}
 use Rattle.trace.specs.Runs.{Shown, runOf}

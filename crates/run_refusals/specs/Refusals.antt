@@ -5,7 +5,7 @@ use mathlib.Core.Option.{Option, none, some}
 use Prim.Native.Nat.{ℕ, _*_, _%_}
 use lib.Dec.{leb, ltb, eqb}
 use lib.ListN.{length}
-use Rattle.model.specs.Records.{Totals}
+use Rattle.ends.specs.Records.{Totals}
 use Rattle.model.specs.Refusals.{ragged, tooMany, lengthsDiffer, totalsFull, shortOutput}
 use Rattle.ternary.specs.Sizes.{keySize}
 use Rattle.records.specs.Layout.{traceSize, outcomeSize, mostPackets}

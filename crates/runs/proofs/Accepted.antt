@@ -8,9 +8,9 @@ use native.Mathlib.Nat.{zero-add}
 use native.Mathlib.Omega.{arith}
 use lib.ListN.{length, drop}
 use lib.Seq.{take-at}
-use Rattle.model.specs.Records.{Outcome, Totals}
-use Rattle.model.specs.Totals.{isHit, isMiss, isNoRule, isEviction, countOf, totalsAfter}
-use Rattle.model.proofs.Totals.{length-outcomes, totals-none}
+use Rattle.ends.specs.Records.{Outcome, Totals}
+use Rattle.ends.specs.Totals.{isHit, isMiss, isNoRule, isEviction, countOf, totalsAfter}
+use Rattle.ends.proofs.Totals.{length-outcomes, totals-none}
 use Rattle.ternary.specs.Sizes.{keySize, positions}
 use Rattle.buffers.specs.Parts.{splice, recordsIn, spelled}
 use Rattle.buffers.proofs.RowLaws.{length-spelled, records-spelled}

@@ -4,11 +4,11 @@ use mathlib.Core.List.{List, [], _∷_, _++_, map}
 use Prim.Native.Nat.{ℕ, _+_, _*_}
 use native.Mathlib.Omega.{arith}
 use lib.ListN.{length, length-append}
-use Rattle.model.specs.Records.{Totals}
-use Rattle.model.specs.Ends.{Key, Decisions}
-use Rattle.model.specs.Trace.{Ends, trace, outcomes}
-use Rattle.model.specs.Totals.{totalsAfter, totalsOver, clearedTotals, Balanced}
-use Rattle.model.proofs.Totals.{totals-append, totals-law, balance-law, cut-law}
+use Rattle.ends.specs.Records.{Totals}
+use Rattle.ends.specs.Ends.{Key, Decisions}
+use Rattle.ends.specs.Trace.{Ends, trace, outcomes}
+use Rattle.ends.specs.Totals.{totalsAfter, totalsOver, clearedTotals, Balanced}
+use Rattle.ends.proofs.Totals.{totals-append, totals-law, balance-law, cut-law}
 use Rattle.ternary.specs.Sizes.{keySize, positions}
 use Rattle.buffers.specs.Parts.{spelled}
 use Rattle.buffers.proofs.RowLaws.{spelled-append, records-append}

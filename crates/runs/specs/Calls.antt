@@ -3,8 +3,8 @@ use mathlib.Core.Path.{_≡_}
 use mathlib.Core.List.{List, [], _∷_, _++_, map, flatten}
 use Prim.Native.Nat.{ℕ, _+_, _*_}
 use lib.ListN.{take}
-use Rattle.model.specs.Records.{Outcome, Totals}
-use Rattle.model.specs.Totals.{clearedTotals, CountsOf, Balanced}
+use Rattle.ends.specs.Records.{Outcome, Totals}
+use Rattle.ends.specs.Totals.{clearedTotals, CountsOf, Balanced}
 use Rattle.buffers.specs.Parts.{recordsIn}
 use Rattle.records.specs.Layout.{outcomeSize}
 use Rattle.outcomes.specs.Outcomes.{decodeOutcome}

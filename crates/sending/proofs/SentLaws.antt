@@ -6,9 +6,9 @@ use Prim.Native.Nat.{ℕ, _+_, _*_, _≤_, _<_}
 use native.Mathlib.Omega.{arith}
 use lib.ListN.{length}
 use Rattle.model.specs.Bits.{Bytes}
-use Rattle.model.specs.Records.{Slot, Write, Report, reportFor, slotAt}
-use Rattle.model.specs.Ends.{writeRefusal, afterWrite, writeReport, reportRefusal, afterReport}
-use Rattle.model.specs.Trace.{Ends, reportedTo, writtenTo}
+use Rattle.ends.specs.Records.{Slot, Write, Report, reportFor, slotAt}
+use Rattle.ends.specs.Ends.{writeRefusal, afterWrite, writeReport, reportRefusal, afterReport}
+use Rattle.ends.specs.Trace.{Ends, reportedTo, writtenTo}
 use Rattle.model.proofs.Cases.{none-some}
 use Rattle.ternary.specs.Sizes.{keySize, positions}
 use Rattle.buffers.proofs.PartLaws.{splice-all}

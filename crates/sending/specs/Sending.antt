@@ -1,9 +1,9 @@
 -- A write goes to the table and its report to the keeper, over the buffers of the two ends. Assumes nothing.
 use mathlib.Core.List.{List}
 use Prim.Native.Nat.{ℕ}
-use Rattle.model.specs.Records.{Write}
-use Rattle.model.specs.Ends.{writeRefusal}
-use Rattle.model.specs.Trace.{Ends, writtenTo}
+use Rattle.ends.specs.Records.{Write}
+use Rattle.ends.specs.Ends.{writeRefusal}
+use Rattle.ends.specs.Trace.{Ends, writtenTo}
 use Rattle.ternary.specs.Sizes.{keySize, positions}
 use Rattle.slots.specs.Slots.{slots}
 use Rattle.slots.specs.Refusals.{WholeSlots}

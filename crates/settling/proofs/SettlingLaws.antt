@@ -5,8 +5,8 @@ use mathlib.Core.List.{List}
 use mathlib.Core.Logic.{_≢_}
 use Prim.Native.Nat.{ℕ, _<_}
 use borrow.Author.Tests.{eq-eqb, ne-eqb}
-use Rattle.model.specs.Records.{Slot, Report, slotAt}
-use Rattle.model.specs.Ends.{isCurrent, confirmed, afterReport}
+use Rattle.ends.specs.Records.{Slot, Report, slotAt}
+use Rattle.ends.specs.Ends.{isCurrent, confirmed, afterReport}
 use Rattle.ternary.specs.Sizes.{keySize}
 use Rattle.slots.specs.Slots.{slotCount, slotIn, slots, SlotPut}
 use Rattle.slots.proofs.SlotLaws.{slot-at}

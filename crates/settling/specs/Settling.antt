@@ -3,8 +3,8 @@ use mathlib.Core.Path.{_≡_}
 use mathlib.Core.Bool.{cond}
 use mathlib.Core.List.{List}
 use Prim.Native.Nat.{ℕ}
-use Rattle.model.specs.Records.{Report, slotAt}
-use Rattle.model.specs.Ends.{isCurrent, confirmed, afterReport}
+use Rattle.ends.specs.Records.{Report, slotAt}
+use Rattle.ends.specs.Ends.{isCurrent, confirmed, afterReport}
 use Rattle.ternary.specs.Sizes.{keySize}
 use Rattle.slots.specs.Slots.{slots, putSlot}
 

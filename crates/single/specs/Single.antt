@@ -14,7 +14,7 @@ use Rattle.keeper.specs.declared.ReportAnswer.{ReportAnswer}
 use Rattle.open_slots.specs.declared.OpenAnswer.{OpenAnswer}
 use Rattle.carrying.specs.declared.MissAnswer.{MissAnswer}
 use Rattle.miss.specs.Answers.{Missed}
-use Rattle.model.specs.Records.{Totals}
+use Rattle.ends.specs.Records.{Totals}
 use Rattle.trace.specs.Runs.{RunIs, shows}
 use Rattle.trace.specs.declared.Ran.{Ran}
 use Rattle.answers.specs.declared.structs.WgCount.{WgCount}

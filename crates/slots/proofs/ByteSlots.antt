@@ -6,8 +6,8 @@ use Prim.Native.Nat.{ℕ, _+_, _*_, _^_, _≤_, _<_, min, max}
 use native.Mathlib.Omega.{arith}
 use lib.ListN.{length, set}
 use Rattle.model.specs.Bits.{Bytes}
-use Rattle.model.specs.Records.{Slot, entryOf, slotWith}
-use Rattle.model.specs.Ends.{top, counted, confirmed}
+use Rattle.ends.specs.Records.{Slot, entryOf, slotWith}
+use Rattle.ends.specs.Ends.{top, counted, confirmed}
 use Rattle.buffers.specs.Numbers.{be, toBe}
 use Rattle.buffers.specs.Parts.{part, splice, chunk, spelled}
 use Rattle.buffers.proofs.PartLaws.{part-length, part-bytes, splice-part}

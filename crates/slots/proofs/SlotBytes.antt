@@ -10,7 +10,7 @@ use lib.ListN.{length, set, length-set, length-append, List·getD-eq-default}
 use lib.Seq.{getD-set-same, getD-set-other}
 use borrow.Author.Tests.{ltb-true, ltb-false}
 use Rattle.model.specs.Bits.{Bytes}
-use Rattle.model.specs.Records.{Slot, cleared, slotAt}
+use Rattle.ends.specs.Records.{Slot, cleared, slotAt}
 use Rattle.model.proofs.Cases.{by-cases}
 use Rattle.ternary.specs.Sizes.{keySize}
 use Rattle.buffers.specs.Parts.{recordsIn, spelled}

@@ -6,7 +6,7 @@ use mathlib.Core.List.{List, [], _∷_, _++_}
 use native.Mathlib.Omega.{arith}
 use lib.ListN.{length, take, drop, set, length-append}
 use Rattle.model.specs.Bits.{Bytes}
-use Rattle.model.specs.Records.{Slot, slotAt, cleared}
+use Rattle.ends.specs.Records.{Slot, slotAt, cleared}
 use Rattle.buffers.specs.Numbers.{be, toBe}
 use Rattle.buffers.specs.Parts.{spelled}
 use Rattle.buffers.proofs.PartLaws.{length-splice}

@@ -1,5 +1,5 @@
 -- The code's struct as the model's record. Assumes nothing.
-use Rattle.model.specs.Records.{Slot}
+use Rattle.ends.specs.Records.{Slot}
 use Rattle.slots.specs.declared.slot.Slot.{Slot as SlotStruct}
 
 abbrev pub asSlot : SlotStruct → Slot

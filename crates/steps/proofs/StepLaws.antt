@@ -6,11 +6,11 @@ use native.Mathlib.Numerals.{add-one}
 use native.Mathlib.Omega.{arith}
 use lib.ListN.{length, take, length-take}
 use lib.Seq.{take-suc, take-all}
-use Rattle.model.specs.Records.{Outcome, Totals}
-use Rattle.model.specs.Ends.{Key, Decisions}
-use Rattle.model.specs.Trace.{Ends, onePacket, trace, oneOutcome, outcomes}
-use Rattle.model.specs.Totals.{totalsAfter}
-use Rattle.model.proofs.Totals.{length-outcomes, cut-law, totals-none, totals-append}
+use Rattle.ends.specs.Records.{Outcome, Totals}
+use Rattle.ends.specs.Ends.{Key, Decisions}
+use Rattle.ends.specs.Trace.{Ends, onePacket, trace, oneOutcome, outcomes}
+use Rattle.ends.specs.Totals.{totalsAfter}
+use Rattle.ends.proofs.Totals.{length-outcomes, cut-law, totals-none, totals-append}
 use Rattle.ternary.specs.Sizes.{keySize, positions}
 use Rattle.buffers.specs.Parts.{splice, chunk, spelled}
 use Rattle.buffers.proofs.PartLaws.{part-length, splice-next}

@@ -3,10 +3,10 @@ use mathlib.Core.Path.{_≡_}
 use mathlib.Core.List.{List, [], _∷_}
 use Prim.Native.Nat.{ℕ, _*_, _≤_}
 use lib.ListN.{length}
-use Rattle.model.specs.Records.{Outcome, Totals}
-use Rattle.model.specs.Ends.{Key}
-use Rattle.model.specs.Trace.{Ends, trace, outcomes}
-use Rattle.model.specs.Totals.{totalsAfter}
+use Rattle.ends.specs.Records.{Outcome, Totals}
+use Rattle.ends.specs.Ends.{Key}
+use Rattle.ends.specs.Trace.{Ends, trace, outcomes}
+use Rattle.ends.specs.Totals.{totalsAfter}
 use Rattle.ternary.specs.Sizes.{keySize, positions}
 use Rattle.buffers.specs.Parts.{splice, spelled}
 use Rattle.records.specs.Layout.{outcomeSize, mostRules, mostPackets}

@@ -8,9 +8,9 @@ use lib.Dec.{leb}
 use lib.ListN.{length, set}
 use borrow.Author.Tests.{leb-true}
 use Rattle.model.specs.Bits.{Bytes}
-use Rattle.model.specs.Records.{Slot, slotAt, reportFor}
-use Rattle.model.specs.Ends.{counted, firstFor, lookup, afterLookup}
-use Rattle.model.proofs.Slots.{found}
+use Rattle.ends.specs.Records.{Slot, slotAt, reportFor}
+use Rattle.ends.specs.Ends.{counted, firstFor, lookup, afterLookup}
+use Rattle.ends.proofs.Slots.{found}
 use Rattle.ternary.specs.Sizes.{keySize, positions}
 use Rattle.buffers.specs.Parts.{splice}
 use Rattle.records.specs.Layout.{slotSize, reportSize, mostSlots}

@@ -5,9 +5,9 @@ use mathlib.Core.Option.{Option, none, some}
 use Prim.Native.Nat.{ℕ, _≤_}
 use lib.Dec.{leb}
 use lib.ListN.{length}
-use Rattle.model.specs.Records.{Slot}
+use Rattle.ends.specs.Records.{Slot}
 use Rattle.model.specs.Refusals.{shortOutput}
-use Rattle.model.specs.Ends.{Hit, firstFor, lookup, afterLookup}
+use Rattle.ends.specs.Ends.{Hit, firstFor, lookup, afterLookup}
 use Rattle.ternary.specs.Sizes.{keySize, positions}
 use Rattle.buffers.specs.Parts.{splice, spelled}
 use Rattle.records.specs.Layout.{reportSize}

@@ -1,5 +1,5 @@
 -- The numbers of the table's answers. Assumes nothing.
-use Rattle.model.specs.Trace.{nothing}
+use Rattle.ends.specs.Trace.{nothing}
 use Rattle.table.specs.declared.lookup.LookupAnswer.{LookupAnswer}
 use Rattle.table.specs.declared.lookup.LookupAnswer.the-variants.{Refused as LookupRefused, Miss, Hit}
 use Rattle.received.specs.declared.write.WriteAnswer.{WriteAnswer}

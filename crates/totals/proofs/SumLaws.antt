@@ -7,8 +7,8 @@ use native.Mathlib.Omega.{arith}
 use lib.Dec.{leb}
 use lib.ListN.{length}
 use borrow.Author.Tests.{leb-true}
-use Rattle.model.specs.Records.{Outcome, Totals}
-use Rattle.model.specs.Totals.{isHit, isMiss, isNoRule, isEviction, countOf, totalsAfter}
+use Rattle.ends.specs.Records.{Outcome, Totals}
+use Rattle.ends.specs.Totals.{isHit, isMiss, isNoRule, isEviction, countOf, totalsAfter}
 use Rattle.model.proofs.Cases.{by-cases, and-left, and-right}
 use Rattle.totals.specs.Sums.{mostTotal, totalsFit, AtMost, One}
 

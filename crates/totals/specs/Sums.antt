@@ -3,7 +3,7 @@ use mathlib.Core.Path.{_≡_}
 use mathlib.Core.Bool.{Bool, cond, _&&_}
 use Prim.Native.Nat.{ℕ, _≤_}
 use lib.Dec.{leb}
-use Rattle.model.specs.Records.{Totals}
+use Rattle.ends.specs.Records.{Totals}
 use Rattle.totals.specs.declared.Totals.{Totals as TotalsStruct}
 
 -- the code's struct as the model's record

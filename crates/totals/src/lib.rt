@@ -5,7 +5,7 @@ ghost use mathlib.Core.Path.{_≡_};
 ghost use mathlib.Core.List.{[], _∷_};
 ghost use Prim.Native.Nat.{_+_};
 ghost use lib.Dec.{eqb};
-ghost use Rattle.model.specs.Totals.{isMiss, totalsAfter};
+ghost use Rattle.ends.specs.Totals.{isMiss, totalsAfter};
 ghost use Rattle.records.specs.Layout.{mostPackets};
 ghost use Rattle.outcomes.specs.Outcomes.{asOutcome};
 ghost use Rattle.totals.specs.Sums.{asTotals, mostTotal, totalsFit, AtMost, One};

@@ -9,8 +9,8 @@ use lib.Dec.{leb, ltb, eqb}
 use lib.ListN.{length}
 use borrow.Author.Tests.{eqb-true, leb-true, ltb-false}
 use Rattle.model.specs.Bits.{Bytes}
-use Rattle.model.specs.Records.{Totals}
-use Rattle.model.specs.Trace.{Ends}
+use Rattle.ends.specs.Records.{Totals}
+use Rattle.ends.specs.Trace.{Ends}
 use Rattle.model.proofs.Cases.{not-true}
 use Rattle.ternary.specs.Sizes.{keySize}
 use Rattle.buffers.specs.Parts.{spelled}

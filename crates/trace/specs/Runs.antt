@@ -4,9 +4,9 @@ use mathlib.Core.List.{List}
 use mathlib.Core.Option.{Option, none, some}
 use Prim.Native.Nat.{ℕ}
 use lib.ListN.{length}
-use Rattle.model.specs.Records.{Outcome, Totals}
-use Rattle.model.specs.Trace.{Ends}
-use Rattle.model.specs.Totals.{totalsAfter}
+use Rattle.ends.specs.Records.{Outcome, Totals}
+use Rattle.ends.specs.Trace.{Ends}
+use Rattle.ends.specs.Totals.{totalsAfter}
 use Rattle.ternary.specs.Sizes.{keySize}
 use Rattle.buffers.specs.Parts.{splice, spelled}
 use Rattle.records.specs.Traces.{packetCount, keys}

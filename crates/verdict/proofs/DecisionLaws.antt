@@ -7,13 +7,13 @@ use Prim.Native.Nat.{ℕ, suc, _<_}
 use native.Mathlib.Omega.{arith}
 use lib.ListN.{length}
 use borrow.Author.Tests.{eq-eqb, ne-eqb}
-use Rattle.model.specs.Records.{Slot, Write, writeFor}
+use Rattle.ends.specs.Records.{Slot, Write, writeFor}
 use Rattle.model.specs.Policy.{Rule as PolicyRule, ruleAt, before, ruleMatches, best}
 use Rattle.model.specs.Isolate.{Isolated, isolate}
-use Rattle.model.specs.Ends.{firstFor, top, largest, roomIn, again, onMiss, nextEntry}
-use Rattle.model.specs.Trace.{nothing}
+use Rattle.ends.specs.Ends.{firstFor, top, largest, roomIn, again, onMiss, nextEntry}
+use Rattle.ends.specs.Trace.{nothing}
 use Rattle.model.proofs.OrderLaws.{foremost-some}
-use Rattle.model.proofs.Slots.{found, roomIn-lt}
+use Rattle.ends.proofs.Slots.{found, roomIn-lt}
 use Rattle.ternary.specs.Sizes.{keySize, positions}
 use Rattle.records.specs.Rules.{rules}
 use Rattle.records.proofs.RuleLaws.{rule-count}

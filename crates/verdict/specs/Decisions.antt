@@ -6,7 +6,7 @@ use Prim.Native.Nat.{ℕ, _≤_}
 use lib.Dec.{eqb}
 use lib.ListN.{length}
 use Rattle.model.specs.Policy.{ruleAt}
-use Rattle.model.specs.Ends.{firstFor, top, largest, roomIn, Miss, place, missOf, nextEntry, onMiss}
+use Rattle.ends.specs.Ends.{firstFor, top, largest, roomIn, Miss, place, missOf, nextEntry, onMiss}
 use Rattle.ternary.specs.Sizes.{keySize, positions}
 use Rattle.records.specs.Layout.{mostRules}
 use Rattle.records.specs.Rules.{ruleCount, rules}

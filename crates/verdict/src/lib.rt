@@ -7,7 +7,7 @@ use outcomes::kinds;
 ghost use mathlib.Core.Path.{_≡_};
 ghost use mathlib.Core.Option.{none, some};
 ghost use Prim.Native.Nat.{suc};
-ghost use Rattle.model.specs.Ends.{largest};
+ghost use Rattle.ends.specs.Ends.{largest};
 ghost use Rattle.ternary.specs.Sizes.{keySize};
 ghost use Rattle.slots.specs.Slots.{slots};
 ghost use Rattle.slots.specs.Refusals.{WholeSlots};

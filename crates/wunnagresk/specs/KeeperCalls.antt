@@ -3,8 +3,8 @@ use mathlib.Core.Path.{_≡_}
 use mathlib.Core.List.{List}
 use Prim.Native.Nat.{ℕ}
 use lib.ListN.{length}
-use Rattle.model.specs.Ends.{missWrite}
-use Rattle.model.specs.Trace.{missOutcome}
+use Rattle.ends.specs.Ends.{missWrite}
+use Rattle.ends.specs.Trace.{missOutcome}
 use Rattle.ternary.specs.Sizes.{keySize}
 use Rattle.slots.specs.Slots.{slots}
 use Rattle.messages.specs.Reports.{decodeReport}

@@ -5,7 +5,7 @@ use mathlib.Core.Bool.{true}
 use mathlib.Core.Option.{none, some}
 use native.Mathlib.Omega.{arith}
 use borrow.Author.Tests.{eq-eqb, ne-eqb}
-use Rattle.model.specs.Ends.{firstFor}
+use Rattle.ends.specs.Ends.{firstFor}
 use Rattle.model.proofs.Cases.{not-true, not-false}
 use Rattle.ternary.specs.Sizes.{keySize, positions}
 use Rattle.slots.specs.Slots.{slots}

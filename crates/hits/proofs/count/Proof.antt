@@ -3,8 +3,8 @@ use borrow.Author.Needs.{needs}
 use mathlib.Core.Path.{_≡_, sym, ap, _∙_}
 use Prim.Native.Nat.{_+_, _*_}
 use native.Mathlib.Omega.{arith}
-use Rattle.model.specs.Records.{Slot}
-use Rattle.model.specs.Ends.{counted}
+use Rattle.ends.specs.Records.{Slot}
+use Rattle.ends.specs.Ends.{counted}
 use Rattle.ternary.specs.Sizes.{keySize}
 use Rattle.ternary.proofs.ByteLaws.{bytes-of}
 use Rattle.buffers.specs.Numbers.{toBe}

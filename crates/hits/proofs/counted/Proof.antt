@@ -3,7 +3,7 @@ use borrow.Author.Needs.{needs}
 use mathlib.Core.Path.{_≡_}
 use Prim.Native.Nat.{_+_, min}
 use native.Mathlib.Omega.{arith}
-use Rattle.model.specs.Ends.{top}
+use Rattle.ends.specs.Ends.{top}
 use Rattle.hits.proofs.counted.Statement.{statement}
 use Rattle.hits.proofs.counted.Tie as tie
 

@@ -2,7 +2,7 @@
 use borrow.Author.Needs.{needs}
 use mathlib.Core.Path.{ap}
 use native.Mathlib.Omega.{arith}
-use Rattle.model.specs.Records.{Report}
+use Rattle.ends.specs.Records.{Report}
 use Rattle.keeper.proofs.ReportLaws.{Accepted, accepted-of, reported-refused, reported-taken}
 use Rattle.keeper.proofs.report.Statement.{statement}
 use Rattle.keeper.proofs.report.Tie as tie

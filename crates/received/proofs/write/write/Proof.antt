@@ -3,7 +3,7 @@ use borrow.Author.Needs.{needs}
 use mathlib.Core.Path.{_≡_, sym, ap, _∙_}
 use native.Mathlib.Omega.{arith}
 use lib.ListN.{length}
-use Rattle.model.specs.Records.{Write}
+use Rattle.ends.specs.Records.{Write}
 use Rattle.ternary.proofs.ByteLaws.{bytes-of}
 use Rattle.slots.specs.Structs.{asSlot}
 use Rattle.messages.specs.Structs.{asWrite}

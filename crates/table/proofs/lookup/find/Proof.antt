@@ -4,7 +4,7 @@ use mathlib.Core.Path.{_≡_, sym, _∙_}
 use mathlib.Core.Bool.{true}
 use mathlib.Core.Option.{none, some}
 use borrow.Author.Tests.{eq-eqb, ne-eqb, le-leb, lt-leb}
-use Rattle.model.specs.Ends.{firstFor}
+use Rattle.ends.specs.Ends.{firstFor}
 use Rattle.model.proofs.Cases.{not-true, not-false}
 use Rattle.ternary.specs.Sizes.{keySize, positions}
 use Rattle.checks.specs.Keys.{keyRefusal}

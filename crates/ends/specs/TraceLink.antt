@@ -5,14 +5,14 @@ use mathlib.Core.Logic.{_⊎_}
 use mathlib.Core.Option.{Option, none, some}
 use Prim.Native.Nat.{ℕ, _*_, _≤_}
 use lib.ListN.{length}
 use Rattle.model.specs.Policy.{Rule, Accepted}
-use Rattle.model.specs.Records.{Entry, Write, writeFor, reportFor, slotAt, entryAt}
-use Rattle.model.specs.Ends.{Key, Decisions, byPolicy, firstFor, counted, again, place, onMiss, missKeeper, missWrite}
-use Rattle.model.specs.Ends.{writeRefusal, writeReport, reportRefusal}
+use Rattle.ends.specs.Records.{Entry, Write, writeFor, reportFor, slotAt, entryAt}
+use Rattle.ends.specs.Ends.{Key, Decisions, byPolicy, firstFor, counted, again, place, onMiss, missKeeper, missWrite}
+use Rattle.ends.specs.Ends.{writeRefusal, writeReport, reportRefusal}
 use Rattle.model.specs.Refusals.{badRecord, reportAhead}
-use Rattle.model.specs.World.{World, Event, start, run}
-use Rattle.model.specs.Promise.{Kept, Sound}
-use Rattle.model.specs.Trace.{Ends, trace}
+use Rattle.ends.specs.World.{World, Event, start, run}
+use Rattle.ends.specs.Promise.{Kept, Sound}
+use Rattle.ends.specs.Trace.{Ends, trace}
 
 -- the two ends of a world
 abbrev pub endsOf : World → Ends

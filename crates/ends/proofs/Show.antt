@@ -3,11 +3,11 @@ use mathlib.Core.Path.{_≡_, refl}
 use mathlib.Core.List.{List}
 use mathlib.Core.Option.{Option, none, some}
 use Prim.Native.Nat.{ℕ}
 use Rattle.model.specs.Policy.{Rule, best}
-use Rattle.model.specs.Records.{Slot}
-use Rattle.model.specs.Ends.{Key, firstFor}
-use Rattle.model.specs.Show.{slotShown, ruleShown, nothingShown, shownBy, shown, ShownFor}
-use Rattle.model.proofs.Slots.{first-iff, first-none-iff}
+use Rattle.ends.specs.Records.{Slot}
+use Rattle.ends.specs.Ends.{Key, firstFor}
+use Rattle.ends.specs.Show.{slotShown, ruleShown, nothingShown, shownBy, shown, ShownFor}
+use Rattle.ends.proofs.Slots.{first-iff, first-none-iff}
 
 by-slot : (f b : Option ℕ) (i : ℕ) → shownBy f b ≡ slotShown i → f ≡ some i
 by-slot (some j) b i e = cc

@@ -10,15 +10,15 @@ use lib.Dec.{leb, ltb, eqb}
 use lib.ListN.{length, length-set}
 use lib.Seq.{getD-set-same}
 use borrow.Author.Tests.{lt-leb, ne-eqb, ltb-false, leb-false, eqb-false}
 use Rattle.model.specs.Pattern.{canonical}
-use Rattle.model.specs.Records.{Entry, Slot, Write, Report, entryIn, writeFor, written, cleared, slotAt, entryAt}
-use Rattle.model.specs.Ends.{Key, Decisions, firstFor, Miss, noRule, again, place, usedUp, roomIn, missOf, nextEntry, onMiss, missKeeper}
-use Rattle.model.specs.Ends.{writeRefusal, isNewer, afterWrite, writeReport, reportRefusal}
+use Rattle.ends.specs.Records.{Entry, Slot, Write, Report, entryIn, writeFor, written, cleared, slotAt, entryAt}
+use Rattle.ends.specs.Ends.{Key, Decisions, firstFor, Miss, noRule, again, place, usedUp, roomIn, missOf, nextEntry, onMiss, missKeeper}
+use Rattle.ends.specs.Ends.{writeRefusal, isNewer, afterWrite, writeReport, reportRefusal}
 use Rattle.model.specs.Refusals.{badRecord, reportAhead}
-use Rattle.model.specs.Promise.{Sound}
-use Rattle.model.specs.TraceLink.{NoneBut, InnerRefusalLaw}
+use Rattle.ends.specs.Promise.{Sound}
+use Rattle.ends.specs.TraceLink.{NoneBut, InnerRefusalLaw}
 use Rattle.model.proofs.Cases.{by-cases, cond-elim, none-some}
-use Rattle.model.proofs.Slots.{found, roomIn-lt}
+use Rattle.ends.proofs.Slots.{found, roomIn-lt}
 
 -- a report of a slot that is there and not empty
 report-but : (k : List Slot) (r : Report) → r .slot < length k → 0 < r .sequence → NoneBut reportAhead (reportRefusal k r)

@@ -10,14 +10,14 @@ use native.Mathlib.Omega.{arith}
 use lib.Dec.{eqb}
 use lib.ListN.{length, length-append}
 use borrow.Author.Tests.{eqb-true}
 use Rattle.model.specs.Below.{allBelow}
-use Rattle.model.specs.Records.{Slot, Outcome, Totals, slotAt}
-use Rattle.model.specs.Ends.{Key, Decisions, Miss, noRule, again, place, usedUp, isEmpty, firstFor, onMiss}
-use Rattle.model.specs.Trace.{Ends, onePacket, trace, missOutcome, packetOutcome, oneOutcome, outcomes}
-use Rattle.model.specs.Totals.{isHit, isMiss, isNoRule, isEviction, countOf, totalsAfter, clearedTotals, totalsOver, TotalsLaw}
-use Rattle.model.specs.Totals.{CutLaw, Balanced, BalanceLaw, Run, outcomesOf, AllBalanced}
+use Rattle.ends.specs.Records.{Slot, Outcome, Totals, slotAt}
+use Rattle.ends.specs.Ends.{Key, Decisions, Miss, noRule, again, place, usedUp, isEmpty, firstFor, onMiss}
+use Rattle.ends.specs.Trace.{Ends, onePacket, trace, missOutcome, packetOutcome, oneOutcome, outcomes}
+use Rattle.ends.specs.Totals.{isHit, isMiss, isNoRule, isEviction, countOf, totalsAfter, clearedTotals, totalsOver, TotalsLaw}
+use Rattle.ends.specs.Totals.{CutLaw, Balanced, BalanceLaw, Run, outcomesOf, AllBalanced}
 use Rattle.model.proofs.Cases.{by-cases, cond-elim}
 use Rattle.model.proofs.BelowLaws.{all-at}
 
 -- ---- cut in two
 

@@ -5,9 +5,9 @@ use mathlib.Core.List.{List, [], _∷_, _++_, map, flatten}
 use Prim.Native.Nat.{ℕ, suc, _+_}
 use lib.Dec.{eqb, leb}
 use lib.ListN.{length}
-use Rattle.model.specs.Records.{Outcome, Totals}
-use Rattle.model.specs.Ends.{Key, Decisions}
-use Rattle.model.specs.Trace.{Ends, trace, outcomes}
+use Rattle.ends.specs.Records.{Outcome, Totals}
+use Rattle.ends.specs.Ends.{Key, Decisions}
+use Rattle.ends.specs.Trace.{Ends, trace, outcomes}
 
 -- hits (1), misses (2 to 5), no rule (0), evictions (3)
 abbrev pub isHit : ℕ → Bool

@@ -1,0 +1,9 @@
+-- What follows. In reading order.
+pub mod Slots
+pub mod Show
+pub mod Protocol
+pub mod Promise
+pub mod TraceLink
+pub mod InnerRefusals
+pub mod Totals
+pub mod SmallRuns
