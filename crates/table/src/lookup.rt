@@ -28,7 +28,9 @@ fn find(key: &[u8], table: &[u8], room: usize) -> Found
             place: 0,
         });
     }
-    match holding::first_holding(table, key) {
+    // Lent anew, as a part: a slice handed on as it came is copied whole first, and a lookup that hits would wait for that copy.
+    let all = &key[0..layout::KEY_SIZE];
+    match holding::first_holding(table, all) {
         holding::Holding::Nowhere => Found::Miss,
         holding::Holding::At(i) => {
             if room < layout::REPORT_SIZE {
