@@ -17,7 +17,7 @@ pub enum BestFound {
     Rule(u16, u16),
 }
 
-// The best rule of a key in an accepted policy: of two that match, the one of larger priority, the earlier on a tie.
+// The best rule of a key: of two that match, the one of larger priority, the earlier on a tie. Refusal 3 of the policy is not asked after.
 pub fn best_rule(policy: &[u8], key: &[u8]) -> BestFound
     requires { ⌜ (ruleCount keySize (now policy) ≤ mostRules) × (length (now key) ≡ keySize) ⌝ }
     ensures { λ r. ⌜ r ≡ bestFound (now (policy .entry)) (now (key .entry)) ⌝ }

@@ -6,7 +6,7 @@ use mathlib.Core.Logic.{_≢_}
 use Prim.Native.Nat.{ℕ, _≤_, _<_}
 use lib.Dec.{ltb}
 use lib.ListN.{length}
-use borrow.Author.Tests.{eq-eqb, ne-eqb, lt-ltb, le-ltb}
+use borrow.Author.Tests.{lt-ltb, le-ltb}
 use Rattle.ends.specs.Records.{Slot, Write}
 use Rattle.model.specs.Refusals.{shortOutput}
 use Rattle.ternary.specs.Sizes.{keySize}
@@ -15,26 +15,23 @@ use Rattle.records.specs.Layout.{writeSize}
 use Rattle.checks.specs.Refusals.{refusal}
 use Rattle.messages.specs.Writes.{encodeWrite}
 use Rattle.messages.specs.Structs.{asWrite}
-use Rattle.outcomes.specs.Outcomes.{givesWrite}
+use Rattle.outcomes.specs.Outcomes.{givesWrite, placesEntry}
+use Rattle.outcomes.proofs.OutcomeLaws.{quiet-places, gives-places, again-places}
 use Rattle.entries.specs.Puts.{EntryPut}
 use Rattle.decisions.specs.declared.Decision.{Decision}
-use Rattle.carrying.specs.Carrying.{placesEntry, EntryPlaced, CarriedOut}
+use Rattle.carrying.specs.Carrying.{EntryPlaced, CarriedOut}
 use Rattle.carrying.specs.declared.MissAnswer.the-variants.{Refused, Outcome as Told}
 
 -- ---- the entry of a write
 
 module _ (keeper : List ℕ) (outcome : ℕ) (w : Write) (gives : givesWrite outcome ≡ true) where
   pub entry-placed : {s : Slot} {keeper′ : List ℕ} → outcome ≢ 5 → EntryPut keeper w s keeper′ → EntryPlaced outcome w keeper keeper′
-  unfolding placesEntry
   entry-placed n p =
-      record {
-        bytes = rw (gives, ne-eqb outcome 5 n, ← p .slot) (p .put .bytes);
-        meaning = rw (gives, ne-eqb outcome 5 n, ← p .slot) (p .put .meaning);
-      }
+      let placed : placesEntry outcome ≡ true = gives-places outcome gives n in
+      record { bytes = rw (placed, ← p .slot) (p .put .bytes); meaning = rw (placed, ← p .slot) (p .put .meaning) }
 
   pub entry-left : outcome ≡ 5 → EntryPlaced outcome w keeper keeper
-  unfolding placesEntry
-  entry-left e = record { bytes = rw (gives, eq-eqb outcome 5 e); meaning = rw (gives, eq-eqb outcome 5 e) }
+  entry-left e = record { bytes = rw (again-places outcome e); meaning = rw (again-places outcome e) }
 
 -- ---- a decision carried out
 
@@ -43,8 +40,14 @@ module _ (d : Decision) (keeper out : List ℕ) where
   o = d .outcome .outcome
 
   pub carried-quiet : {b : Bool} → b ≡ givesWrite o → b ≡ false → CarriedOut d keeper out (Told (d .outcome)) keeper out
-  unfolding placesEntry
-  carried-quiet e t = record { answer = rw (sym e ∙ t); bytes = rw (sym e ∙ t); meaning = rw (sym e ∙ t); given = rw (sym e ∙ t) }
+  carried-quiet e t =
+      let quiet : givesWrite o ≡ false = sym e ∙ t in
+      record {
+        answer = rw quiet;
+        bytes = rw (quiet, quiet-places o quiet);
+        meaning = rw (quiet, quiet-places o quiet);
+        given = rw quiet;
+      }
 
   module _ {b : Bool} (e : b ≡ givesWrite o) (t : b ≡ true) where
     pub carried-short : length out < writeSize keySize → CarriedOut d keeper out (Refused (refusal shortOutput 0)) keeper out

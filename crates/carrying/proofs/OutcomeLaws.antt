@@ -7,9 +7,8 @@ use Rattle.ends.specs.Records.{Slot, Outcome, Entry, slotAt}
 use Rattle.ends.specs.Ends.{Decisions, noRule, again, place, usedUp, isEmpty}
 use Rattle.ends.specs.Trace.{missOutcome}
 use Rattle.model.proofs.Cases.{by-cases}
-use Rattle.outcomes.specs.Outcomes.{asOutcome, givesWrite}
+use Rattle.outcomes.specs.Outcomes.{asOutcome, givesWrite, placesEntry}
 use Rattle.outcomes.specs.declared.Outcome.{Outcome as OutcomeStruct}
-use Rattle.carrying.specs.Carrying.{placesEntry}
 
 module _ (p : Decisions) (k : List Slot) (x : OutcomeStruct) where
   number-is : {o : Outcome} → asOutcome x ≡ o → x .outcome ≡ o .outcome

@@ -1,10 +1,10 @@
 -- A decision on a miss, carried out, in its own values. Assumes nothing.
 use mathlib.Core.Path.{_≡_}
-use mathlib.Core.Bool.{Bool, not, cond, _&&_}
+use mathlib.Core.Bool.{not, cond, _&&_}
 use mathlib.Core.List.{List}
 use mathlib.Core.Option.{Option, none, some}
 use Prim.Native.Nat.{ℕ}
-use lib.Dec.{ltb, eqb}
+use lib.Dec.{ltb}
 use lib.ListN.{length, set}
 use Rattle.ends.specs.Records.{Write, Outcome, written, entryIn}
 use Rattle.model.specs.Refusals.{shortOutput}
@@ -16,7 +16,7 @@ use Rattle.checks.specs.declared.refusal.Refusal.{Refusal}
 use Rattle.slots.specs.Slots.{slots, putSlot}
 use Rattle.messages.specs.Writes.{encodeWrite}
 use Rattle.messages.specs.Structs.{asWrite}
-use Rattle.outcomes.specs.Outcomes.{asOutcome, givesWrite}
+use Rattle.outcomes.specs.Outcomes.{asOutcome, givesWrite, placesEntry}
 use Rattle.outcomes.specs.declared.Outcome.{Outcome as OutcomeStruct}
 use Rattle.decisions.specs.declared.Decision.{Decision}
 use Rattle.carrying.specs.declared.MissAnswer.{MissAnswer}
@@ -29,10 +29,6 @@ asStruct x = record { outcome = x .outcome; action = x .action; rule = x .rule; 
 abbrev pub answerOf : Option Refusal → Outcome → MissAnswer
 answerOf (some r) x = Refused r
 answerOf none x = Told (asStruct x)
-
--- outcome 5 gives a write and places no entry
-unfoldable pub placesEntry : ℕ → Bool
-placesEntry outcome = givesWrite outcome && not (eqb outcome 5)
 
 -- where the decision gives a write and the output is too short for it
 abbrev pub shortRefusal : ℕ → ℕ → Option Refusal

@@ -4,14 +4,13 @@ use mathlib.Core.Bool.{cond}
 use mathlib.Core.List.{List}
 use mathlib.Core.Option.{Option, none, some}
 use Prim.Native.Nat.{ℕ, _<_}
-use Rattle.ends.specs.Records.{Slot, Write, Outcome, slotAt}
+use Rattle.ends.specs.Records.{Slot, Write, Outcome, writeFor, blank, slotAt}
 use Rattle.ends.specs.Ends.{Decisions, byPolicy, isEmpty, Miss, missWrite}
 use Rattle.ends.specs.Trace.{nothing, missOutcome}
 use Rattle.ternary.specs.Sizes.{keySize, positions}
 use Rattle.records.specs.Rules.{rules}
 use Rattle.slots.specs.Slots.{slotCount, slots}
 use Rattle.messages.specs.Structs.{asWrite}
-use Rattle.messages.specs.declared.write.Write.{Write as WriteStruct}
 use Rattle.outcomes.specs.Outcomes.{asOutcome}
 use Rattle.decisions.specs.declared.Decision.{Decision}
 
@@ -19,22 +18,22 @@ use Rattle.decisions.specs.declared.Decision.{Decision}
 abbrev pub deciding : List ℕ → Decisions
 deciding policy = byPolicy positions (rules keySize policy)
 
--- the write, where one is given
-abbrev pub WriteIs : Option Write → WriteStruct → Type 0
-WriteIs none x = Unit {0}
-WriteIs (some w) x = asWrite x ≡ w
+-- the write that is given, or one that is all 0
+abbrev pub orBlank : Option Write → Write
+orBlank none = writeFor 0 (blank keySize)
+orBlank (some w) = w
 
 -- the decision is that of the miss: its outcome, and its write
 pub record DecidedAs (policy keeper : List ℕ) (m : Miss) (d : Decision) : Type 0 where
   pub outcome : asOutcome (d .outcome) ≡ missOutcome (deciding policy) (slots keySize keeper) m
-  pub write : WriteIs (missWrite (slots keySize keeper) m) (d .write)
-  -- a slot of the keeper; 0 where no write is given
+  pub write : asWrite (d .write) ≡ orBlank (missWrite (slots keySize keeper) m)
+  -- so the write is of a slot of the keeper, also where none is given
   pub inside : d .write .slot < slotCount keySize keeper
 
 -- a decision without a write
 pub record NoWrite (outcome action rule : ℕ) (d : Decision) : Type 0 where
   pub told : asOutcome (d .outcome) ≡ record { outcome = outcome; action = action; rule = rule; slot = nothing; evicted = nothing }
-  pub slot-0 : d .write .slot ≡ 0
+  pub write : asWrite (d .write) ≡ orBlank none
 
 -- the outcome of a rule that is written to slot i, as the model has it of the entry
 abbrev pub placedOutcome : List Slot → ℕ → ℕ → ℕ → Outcome

@@ -23,7 +23,8 @@ use Rattle.slots.specs.Refusals.{slotsFit, slotsRefusal}
 use Rattle.slots.proofs.FitLaws.{slots-accepted}
 use Rattle.messages.specs.Writes.{encodeWrite}
 use Rattle.messages.specs.Structs.{asWrite}
-use Rattle.outcomes.specs.Outcomes.{asOutcome, givesWrite}
+use Rattle.outcomes.specs.Outcomes.{asOutcome, givesWrite, placesEntry}
+use Rattle.outcomes.proofs.OutcomeLaws.{quiet-places}
 use Rattle.policy.specs.Refusals.{policyRefusal}
 use Rattle.policy.specs.Answers.{checkAnswer, bestRefusal}
 use Rattle.policy.specs.declared.PolicyAnswer.{PolicyAnswer}
@@ -31,7 +32,7 @@ use Rattle.policy.specs.declared.PolicyAnswer.the-variants.{Refused as BadPolic
 use Rattle.policy.proofs.CheckLaws.{check-refused, check-passed, passed-few}
 use Rattle.decisions.specs.Decided.{deciding, DecidedAs}
 use Rattle.verdict.specs.Decisions.{Fine}
-use Rattle.carrying.specs.Carrying.{answerOf, placesEntry, CarriedOut}
+use Rattle.carrying.specs.Carrying.{answerOf, CarriedOut}
 use Rattle.carrying.specs.declared.MissAnswer.{MissAnswer}
 use Rattle.carrying.specs.declared.MissAnswer.the-variants.{Refused}
 use Rattle.carrying.proofs.OutcomeLaws.{none-quiet, full-quiet, again-given, entry-given}
@@ -108,12 +109,10 @@ module _ (policy keeper out : List ℕ) {d : Decision} {r : MissAnswer} {keeper�
   answer-quiet g e = (rw g at (c .answer)) ∙ ap (answerOf none) e
 
   bytes-quiet : givesWrite n ≡ false → keeper′ ≡ keeper
-  unfolding placesEntry
-  bytes-quiet g = rw g at (c .bytes)
+  bytes-quiet g = rw (g, quiet-places n g) at (c .bytes)
 
   slots-quiet : givesWrite n ≡ false → slots keySize keeper′ ≡ k
-  unfolding placesEntry
-  slots-quiet g = rw g at (c .meaning)
+  slots-quiet g = rw (g, quiet-places n g) at (c .meaning)
 
   out-quiet : givesWrite n ≡ false → out′ ≡ out
   out-quiet g = rw g at (c .given)

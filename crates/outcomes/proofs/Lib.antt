@@ -1,2 +1,2 @@
--- Laws of outcomes: decoding and encoding undo each other.
+-- Laws of outcomes: decoding and encoding undo each other; which give a write, and which place its entry.
 pub mod OutcomeLaws

@@ -1,6 +1,6 @@
 -- Outcomes: what a run tells of each packet. Assumes nothing.
 use Prim.Native.Nat.{ℕ, _^_, _<_}
-use mathlib.Core.Bool.{Bool, not, _&&_}
+use mathlib.Core.Bool.{Bool, _||_}
 use mathlib.Core.List.{List, [], _∷_, _++_}
 use lib.Dec.{eqb}
 use lib.ListN.{getD}
@@ -41,6 +41,10 @@ pub record OutcomeFits (x : Outcome) : Type 0 where
 abbrev pub asOutcome : OutcomeStruct → Outcome
 asOutcome x = record { outcome = x .outcome; action = x .action; rule = x .rule; slot = x .slot; evicted = x .evicted }
 
--- in outcomes 0 and 4 no write is given
+-- in outcomes 2, 3 and 5 a write is given
 unfoldable pub givesWrite : ℕ → Bool
-givesWrite outcome = not (eqb outcome 0) && not (eqb outcome 4)
+givesWrite outcome = eqb outcome 2 || (eqb outcome 3 || eqb outcome 5)
+
+-- in 2 and 3 it is of a new entry, which the keeper places
+unfoldable pub placesEntry : ℕ → Bool
+placesEntry outcome = eqb outcome 2 || eqb outcome 3

@@ -17,12 +17,15 @@ pub const AGAIN: u8 = 5;
 // No rule, no slot, no evicted rule.
 pub const NOTHING: u16 = 65535;
 
-// Whether a write is given.
+// Whether a write is given: in outcomes 2, 3 and 5.
 pub fn gives_write(outcome: u8) -> bool
     ensures { λ r. ⌜ r ≡ givesWrite outcome ⌝ }
 {
-    if outcome == NO_RULE {
-        return false;
+    if outcome == TO_EMPTY {
+        return true;
     }
-    outcome != USED_UP
+    if outcome == OVER_ENTRY {
+        return true;
+    }
+    outcome == AGAIN
 }

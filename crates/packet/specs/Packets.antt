@@ -12,7 +12,7 @@ use Rattle.decisions.specs.Decided.{deciding}
 use Rattle.verdict.specs.Decisions.{Fine, missIn}
 use Rattle.sending.specs.Sending.{endsIn}
 
--- no part of a packet is refused
+-- as much as one packet needs of its parts; a run's refusals ask for more
 pub record FinePacket (policy key table keeper : List ℕ) : Type 0 where
   pub fine : Fine policy key keeper
   pub table-whole : WholeSlots table

@@ -18,7 +18,7 @@ use Rattle.decisions.specs.Decided.{deciding}
 use Rattle.sending.specs.Sending.{endsIn}
 use Rattle.packet.specs.Packets.{packetOutcome, packetEnds}
 
--- the buffers of a run that is not refused
+-- as much as the steps need of a run's buffers; a run's refusals ask for more
 pub record RunFits (policy trace table keeper out : List ℕ) : Type 0 where
   pub few : ruleCount keySize policy ≤ mostRules
   pub short : packetCount keySize trace ≤ mostPackets

@@ -1,22 +1,19 @@
 -- What each branch of a miss's decision comes to. Assumes nothing.
-use mathlib.Core.Path.{_≡_, refl, sym, ap, _∙_}
+use mathlib.Core.Path.{_≡_, sym, ap, _∙_}
 use mathlib.Core.List.{List}
 use mathlib.Core.Logic.{_≢_}
-use mathlib.Core.Option.{Option, none, some}
+use mathlib.Core.Option.{none, some}
 use Prim.Native.Nat.{ℕ, suc, _<_}
 use native.Mathlib.Omega.{arith}
-use lib.ListN.{length}
 use borrow.Author.Tests.{eq-eqb, ne-eqb}
 use Rattle.ends.specs.Records.{Slot, Write, writeFor}
-use Rattle.model.specs.Policy.{Rule as PolicyRule, ruleAt, before, ruleMatches, best}
+use Rattle.model.specs.Policy.{Rule as PolicyRule, ruleAt}
 use Rattle.model.specs.Isolate.{Isolated, isolate}
 use Rattle.ends.specs.Ends.{firstFor, top, largest, roomIn, again, onMiss, nextEntry}
 use Rattle.ends.specs.Trace.{nothing}
-use Rattle.model.proofs.OrderLaws.{foremost-some}
 use Rattle.ends.proofs.Slots.{found, roomIn-lt}
 use Rattle.ternary.specs.Sizes.{keySize, positions}
 use Rattle.records.specs.Rules.{rules}
-use Rattle.records.proofs.RuleLaws.{rule-count}
 use Rattle.slots.specs.Slots.{slotCount, slots}
 use Rattle.slots.specs.Refusals.{WholeSlots}
 use Rattle.holding.specs.Holding.{holdingOf}
@@ -43,15 +40,18 @@ module _ (policy key keeper : List ℕ) where
   pub room-inside : {i : ℕ} → WholeSlots keeper → i ≡ roomIn ks → i < slotCount keySize keeper
   room-inside whole e = omega (arith, roomIn-lt ks (omega (arith, whole .some-there, slot-count keySize keeper)), slot-count keySize keeper)
 
-  -- a decision without a write
+  -- a decision without a write names slot 0
+  blank-slot : {outcome action rule : ℕ} {d : Decision} → NoWrite outcome action rule d → d .write .slot ≡ 0
+  blank-slot is = ap (λ (w : Write). w .slot) (is .write)
+
   pub used-up : {number action last : ℕ} {d : Decision} → RuleFor policy key number action → WholeSlots keeper → last ≡ largest ks → last ≡ top
       → NoWrite 4 action number d → DecidedAs policy keeper (missWith policy key keeper (some number) none) d
   used-up {number} rule whole e t is =
       rw (eq-eqb (largest ks) top (sym e ∙ t))
       (record {
         outcome = is .told ∙ ap (λ (a : ℕ). record { outcome = 4; action = a; rule = number; slot = nothing; evicted = nothing }) (rule .acts);
-        write = tt;
-        inside = omega (arith, is .slot-0, whole .some-there);
+        write = is .write;
+        inside = omega (arith, blank-slot is, whole .some-there);
       })
 
   pub not-used-up : {number last : ℕ} {d : Decision} → last ≡ largest ks → last ≢ top
@@ -81,7 +81,7 @@ module _ (policy key keeper : List ℕ) where
   unfolding onMiss
   no-rule fine e t is =
       rw (found-none policy key (sym e ∙ t))
-      (record { outcome = is .told; write = tt; inside = omega (arith, is .slot-0, fine .whole .some-there) })
+      (record { outcome = is .told; write = is .write; inside = omega (arith, blank-slot is, fine .whole .some-there) })
 
   pub rule-for : {b : BestFound} {number action : ℕ} → Fine policy key keeper → b ≡ bestFound policy key → b ≡ Rule number action
       → RuleFor policy key number action

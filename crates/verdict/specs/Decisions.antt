@@ -1,7 +1,7 @@
 -- What a miss comes to, by value, in the words of the model. Assumes nothing.
 use mathlib.Core.Path.{_≡_}
 use mathlib.Core.List.{List}
-use mathlib.Core.Option.{Option, none, some}
+use mathlib.Core.Option.{Option, some}
 use Prim.Native.Nat.{ℕ, _≤_}
 use lib.Dec.{eqb}
 use lib.ListN.{length}
@@ -17,7 +17,7 @@ use Rattle.decisions.specs.Decided.{deciding}
 
 -- ---- what is asked of the parts
 
--- none of them is refused
+-- as much as a decision needs of them: at most 1,024 rules, a whole key, whole slots. Refusal 3 is not asked after
 pub record Fine (policy key keeper : List ℕ) : Type 0 where
   pub few : ruleCount keySize policy ≤ mostRules
   pub long : length key ≡ keySize
