@@ -6,7 +6,7 @@ use mathlib.Core.Option.{Option, none, some}
 use Prim.Native.Nat.{ℕ, suc, _*_}
 use native.Mathlib.Nat.{zero-add}
 use native.Mathlib.Omega.{arith}
-use lib.ListN.{length, drop}
+use lib.ListN.{length, take, drop}
 use lib.Seq.{take-at}
 use Rattle.ends.specs.Records.{Outcome, Totals}
 use Rattle.ends.specs.Totals.{isHit, isMiss, isNoRule, isEviction, countOf, totalsAfter}
@@ -27,7 +27,7 @@ use Rattle.run_refusals.specs.Refusals.{runRefusal}
 use Rattle.trace.specs.Runs.{outcomesOf, endsOf, Shown, shownOf, runOf, endsLeft}
 use Rattle.trace.specs.declared.RunAnswer.{RunAnswer}
 use Rattle.trace.specs.declared.RunAnswer.the-variants.{Refused, Packets}
-use Rattle.runs.specs.Calls.{Call, Made, left, outcomesIn, toldBytes}
+use Rattle.runs.specs.Calls.{Call, Made, left, outcomesIn}
 
 -- what an accepted call of n packets left
 pub record AcceptedRun (t : Totals) (c : Call) (n : ℕ) : Type 0 where
@@ -102,7 +102,7 @@ module _ {t : Totals} {c : Call} {n : ℕ} (is : AcceptedRun t c n) where
   unfolding splice
   at-start = is .told ∙ ap (λ (k : ℕ). spelled encodeOutcome os ++ drop k (c .out)) (zero-add (length (spelled encodeOutcome os)))
 
-  pub told-bytes : toldBytes n (c .out′) ≡ spelled encodeOutcome os
+  pub told-bytes : take (outcomeSize * n) (c .out′) ≡ spelled encodeOutcome os
   told-bytes =
       rw at-start
       (take-at (spelled encodeOutcome os) _ (outcomeSize * n)

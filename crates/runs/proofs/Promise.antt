@@ -1,14 +1,14 @@
--- The totals over all calls, and a trace cut in two. Assumes nothing.
+-- The totals over all calls, and a trace cut into parts. Assumes nothing.
 use mathlib.Core.Path.{_≡_, refl, sym, ap, subst, _∙_}
-use mathlib.Core.List.{List, [], _∷_, _++_, map}
+use mathlib.Core.List.{List, [], _∷_, _++_, map, flatten, append-nil}
 use Prim.Native.Nat.{ℕ, _+_, _*_}
 use native.Mathlib.Omega.{arith}
 use lib.ListN.{length, length-append}
 use Rattle.ends.specs.Records.{Totals}
 use Rattle.ends.specs.Ends.{Key, Decisions}
-use Rattle.ends.specs.Trace.{Ends, trace, outcomes}
+use Rattle.ends.specs.Trace.{trace, outcomes}
 use Rattle.ends.specs.Totals.{totalsAfter, totalsOver, clearedTotals, Balanced}
-use Rattle.ends.proofs.Totals.{totals-append, totals-law, balance-law, cut-law}
+use Rattle.ends.proofs.Totals.{totals-law, balance-law, cut-law}
 use Rattle.ternary.specs.Sizes.{keySize, positions}
 use Rattle.buffers.specs.Parts.{spelled}
 use Rattle.buffers.proofs.RowLaws.{spelled-append, records-append}
@@ -16,13 +16,14 @@ use Rattle.records.specs.Layout.{traceSize}
 use Rattle.records.specs.Traces.{packetCount, keys, decodeTrace}
 use Rattle.slots.specs.Slots.{encodeSlot}
 use Rattle.outcomes.specs.Outcomes.{encodeOutcome}
+use Rattle.totals.specs.Sums.{asTotals}
 use Rattle.decisions.specs.Decided.{deciding}
 use Rattle.sending.specs.Sending.{endsIn}
 use Rattle.trace.proofs.RunLaws.{run-whole}
 use Rattle.trace.specs.declared.RunAnswer.{RunAnswer}
 use Rattle.trace.specs.declared.RunAnswer.the-variants.{Refused, Packets}
 use Rattle.runs.specs.Calls.{Call, Made, left, InTurn, lastOf, toldIn, TotalsPromise}
-use Rattle.runs.specs.Calls.{toldBytes, CutRun, wholeCall, firstCall, secondCall, SameRun, CutPromise}
+use Rattle.runs.specs.Calls.{Part, callOf, Accepted, Successive, lastPart, joined, toldBytes, CutPromise}
 use Rattle.runs.proofs.Accepted.{AcceptedRun, accepted-run, refused-run, told-bytes, told-totals}
 
 -- ---- totals
@@ -49,7 +50,7 @@ totals-promise calls is =
       balanced = balanced-over clearedTotals calls is refl;
     }
 
--- ---- a trace cut in two
+-- ---- a trace cut into parts
 
 -- a cut between records cuts the keys
 module _ (xs ys : List ℕ) (whole : length xs ≡ traceSize keySize * packetCount keySize xs) where
@@ -60,64 +61,70 @@ module _ (xs ys : List ℕ) (whole : length xs ≡ traceSize keySize * packetCou
   unfolding keys
   cut-keys = rw cut-count (records-append (traceSize keySize) (decodeTrace keySize) (packetCount keySize xs) (packetCount keySize ys) xs ys whole)
 
-module _ (t : Totals) (c : CutRun) {n a b : ℕ}
-    (w : AcceptedRun t (wholeCall c) n) (f : AcceptedRun t (firstCall c) a) (s : AcceptedRun (left (firstCall c)) (secondCall c) b) where
+module _ (policy : List ℕ) where
   abbrev p : Decisions
-  p = deciding (c .policy)
+  p = deciding policy
 
-  abbrev e : Ends
-  e = endsIn (c .table) (c .keeper)
+  -- told, left and summed up as by a run of those keys
+  record RanAs (table keeper : List ℕ) (t : Totals) (ks : List Key) (told table′ keeper′ : List ℕ) (t′ : Totals) : Type 0 where
+    outcomes-told : told ≡ spelled encodeOutcome (outcomes positions p (endsIn table keeper) ks)
+    table-left : table′ ≡ spelled encodeSlot (trace positions p (endsIn table keeper) ks .table)
+    keeper-left : keeper′ ≡ spelled encodeSlot (trace positions p (endsIn table keeper) ks .keeper)
+    sums : t′ ≡ totalsAfter t (outcomes positions p (endsIn table keeper) ks)
 
-  abbrev ks : List Key
-  ks = keys keySize (c .xs)
+  abbrev PartsRan : List ℕ → List ℕ → Totals → List ℕ → List ℕ → Part → Type 0
+  PartsRan table keeper t bytes told x = RanAs table keeper t (keys keySize bytes) told (x .table′) (x .keeper′) (asTotals (x .ran .totals))
 
-  abbrev ls : List Key
-  ls = keys keySize (c .ys)
+  module _ (table keeper : List ℕ) (t : Totals) (x : Part) (is : Accepted policy table keeper t x) where
+    ran : AcceptedRun t (callOf policy table keeper x) (is .0)
+    ran = accepted-run t (callOf policy table keeper x) (is .2) (is .1)
 
-  xs-whole : length (c .xs) ≡ traceSize keySize * packetCount keySize (c .xs)
-  xs-whole = run-whole (c .policy) (c .xs) (c .table) (c .keeper) (c .out₁) t (f .fine)
+    part-ran : PartsRan table keeper t (x .trace) (toldBytes x) x
+    part-ran =
+        record {
+          outcomes-told = rw (is .1) (told-bytes ran);
+          table-left = ran .table-bytes;
+          keeper-left = ran .keeper-bytes;
+          sums = ran .sums;
+        }
 
-  split : keys keySize (c .xs ++ c .ys) ≡ ks ++ ls
-  split = cut-keys (c .xs) (c .ys) xs-whole
+    -- a part, and then what goes on from the ends and totals that it left
+    then-ran : (bytes : List ℕ) {told table′ keeper′ : List ℕ} {t′ : Totals}
+        → RanAs (x .table′) (x .keeper′) (asTotals (x .ran .totals)) (keys keySize bytes) told table′ keeper′ t′
+        → RanAs table keeper t (keys keySize (x .trace ++ bytes)) (toldBytes x ++ told) table′ keeper′ t′
+    then-ran bytes more =
+        let ks = keys keySize (x .trace) in
+        let ls = keys keySize bytes in
+        let e = endsIn table keeper in
+        let cut = cut-law positions p e t ks ls in
+        let split : keys keySize (x .trace ++ bytes) ≡ ks ++ ls =
+        cut-keys (x .trace) bytes (run-whole policy (x .trace) table keeper (x .out) t (ran .fine))
+        in
+        rw split
+        (record {
+          outcomes-told = rw (part-ran .outcomes-told, cut .answers, ← ran .meaning)
+              (ap (λ (s : List ℕ). spelled encodeOutcome (outcomes positions p e ks) ++ s) (more .outcomes-told)
+              ∙ sym (spelled-append encodeOutcome (outcomes positions p e ks) (outcomes positions p (endsIn (x .table′) (x .keeper′)) ls)));
+          table-left = rw (cut .ends, ← ran .meaning) (more .table-left);
+          keeper-left = rw (cut .ends, ← ran .meaning) (more .keeper-left);
+          sums = rw (cut .sums, ← ran .meaning, ← ran .sums) (more .sums);
+        })
 
-  same-ends : trace positions p e (keys keySize (c .xs ++ c .ys)) ≡ trace positions p (endsIn (c .table₁) (c .keeper₁)) ls
-  same-ends =
-      ap (trace positions p e) split
-      ∙ cut-law positions p e t ks ls .ends
-      ∙ ap (λ (m : Ends). trace positions p m ls) (sym (f .meaning))
-
-  same-told : outcomes positions p e (keys keySize (c .xs ++ c .ys))
-      ≡ outcomes positions p e ks ++ outcomes positions p (endsIn (c .table₁) (c .keeper₁)) ls
-  same-told =
-      ap (outcomes positions p e) split
-      ∙ cut-law positions p e t ks ls .answers
-      ∙ ap (λ (m : Ends). outcomes positions p e ks ++ outcomes positions p m ls) (sym (f .meaning))
-
-  same-sums : left (wholeCall c) ≡ left (secondCall c)
-  same-sums =
-      w .sums
-      ∙ ap (totalsAfter t) same-told
-      ∙ totals-append t (outcomes positions p e ks) (outcomes positions p (endsIn (c .table₁) (c .keeper₁)) ls)
-      ∙ ap (λ (x : Totals). totalsAfter x (outcomes positions p (endsIn (c .table₁) (c .keeper₁)) ls)) (sym (f .sums))
-      ∙ sym (s .sums)
-
-  same-bytes : toldBytes n (c .out′) ≡ toldBytes a (c .out₁′) ++ toldBytes b (c .out₂′)
-  same-bytes =
-      rw (told-bytes f, told-bytes s)
-      (told-bytes w
-      ∙ ap (spelled encodeOutcome) same-told
-      ∙ spelled-append encodeOutcome (outcomes positions p e ks) (outcomes positions p (endsIn (c .table₁) (c .keeper₁)) ls))
-
-  same-run : SameRun c n a b
-  same-run =
-      record {
-        packets = omega (arith, w .count, f .count, s .count, cut-count (c .xs) (c .ys) xs-whole);
-        outcomes = same-bytes;
-        table = w .table-bytes ∙ ap (λ (m : Ends). spelled encodeSlot (m .table)) same-ends ∙ sym (s .table-bytes);
-        keeper = w .keeper-bytes ∙ ap (λ (m : Ends). spelled encodeSlot (m .keeper)) same-ends ∙ sym (s .keeper-bytes);
-        totals = same-sums;
-      }
+  all-ran : (table keeper : List ℕ) (t : Totals) (first : Part) (more : List Part) → Successive policy table keeper t (first ∷ more)
+      → PartsRan table keeper t (joined (first ∷ more)) (flatten (map toldBytes (first ∷ more))) (lastPart first more)
+  unfolding flatten
+  all-ran table keeper t first [] is = rw (append-nil (first .trace), append-nil (toldBytes first)) (part-ran table keeper t first (is .0))
+  all-ran table keeper t first (next ∷ more) is =
+      then-ran table keeper t first (is .0) (joined (next ∷ more))
+      (all-ran (first .table′) (first .keeper′) (asTotals (first .ran .totals)) next more (is .1))
 
 pub cut-promise : CutPromise
-cut-promise t c n a b w f s x y z =
-    same-run t c (accepted-run t (wholeCall c) w x) (accepted-run t (firstCall c) f y) (accepted-run (left (firstCall c)) (secondCall c) s z)
+cut-promise policy table keeper t whole first more is parts e =
+    let one = part-ran policy table keeper t whole is in
+    let all = rw (← e) at (all-ran policy table keeper t first more parts) in
+    record {
+      outcomes = one .outcomes-told ∙ sym (all .outcomes-told);
+      table = one .table-left ∙ sym (all .table-left);
+      keeper = one .keeper-left ∙ sym (all .keeper-left);
+      totals = one .sums ∙ sym (all .sums);
+    }

@@ -61,87 +61,66 @@ pub record Tallied (calls : List Call) (t : Totals) : Type 0 where
 abbrev pub TotalsPromise : Type 0
 TotalsPromise = (calls : List Call) → InTurn clearedTotals calls → Tallied calls (lastOf clearedTotals calls)
 
--- ---- a trace cut in two
+-- ---- a trace cut into parts
 
--- the first `count` outcomes of an output, byte by byte
-abbrev pub toldBytes : ℕ → List ℕ → List ℕ
-toldBytes count out = take (outcomeSize * count) out
-
--- a trace of two parts, run whole in one call, and part after part in two: the buffers, what was answered, and the buffers after each call
-pub record CutRun : Type 0 where
-  pub policy : List ℕ
-  pub xs : List ℕ
-  pub ys : List ℕ
-  pub table : List ℕ
-  pub keeper : List ℕ
+-- a part of a trace and the call that ran it: what the call was lent beside policy and ends, what it answered, and what it left
+pub record Part : Type 0 where
+  pub trace : List ℕ
   pub out : List ℕ
-  pub out₁ : List ℕ
-  pub out₂ : List ℕ
   pub ran : Ran
-  pub ran₁ : Ran
-  pub ran₂ : Ran
   pub table′ : List ℕ
   pub keeper′ : List ℕ
   pub out′ : List ℕ
-  pub table₁ : List ℕ
-  pub keeper₁ : List ℕ
-  pub out₁′ : List ℕ
-  pub table₂ : List ℕ
-  pub keeper₂ : List ℕ
-  pub out₂′ : List ℕ
 
-abbrev pub wholeCall : CutRun → Call
-wholeCall c =
+abbrev pub callOf : List ℕ → List ℕ → List ℕ → Part → Call
+callOf policy table keeper x =
     record {
-      policy = c .policy;
-      trace = c .xs ++ c .ys;
-      table = c .table;
-      keeper = c .keeper;
-      out = c .out;
-      ran = c .ran;
-      table′ = c .table′;
-      keeper′ = c .keeper′;
-      out′ = c .out′;
+      policy = policy;
+      trace = x .trace;
+      table = table;
+      keeper = keeper;
+      out = x .out;
+      ran = x .ran;
+      table′ = x .table′;
+      keeper′ = x .keeper′;
+      out′ = x .out′;
     }
 
-abbrev pub firstCall : CutRun → Call
-firstCall c =
-    record {
-      policy = c .policy;
-      trace = c .xs;
-      table = c .table;
-      keeper = c .keeper;
-      out = c .out₁;
-      ran = c .ran₁;
-      table′ = c .table₁;
-      keeper′ = c .keeper₁;
-      out′ = c .out₁′;
-    }
+-- with that policy, from those ends and totals, the call did what the run promises, and was accepted
+abbrev pub Accepted : List ℕ → List ℕ → List ℕ → Totals → Part → Type 0
+Accepted policy table keeper t x = (count : ℕ) × (x .ran .answer ≡ Packets count) × Made t (callOf policy table keeper x)
 
--- it goes on with the ends that the first left
-abbrev pub secondCall : CutRun → Call
-secondCall c =
-    record {
-      policy = c .policy;
-      trace = c .ys;
-      table = c .table₁;
-      keeper = c .keeper₁;
-      out = c .out₂;
-      ran = c .ran₂;
-      table′ = c .table₂;
-      keeper′ = c .keeper₂;
-      out′ = c .out₂′;
-    }
+-- calls in succession: each goes on with the ends and the totals that the one before it left
+abbrev pub Successive : List ℕ → List ℕ → List ℕ → Totals → List Part → Type 0
+Successive policy table keeper t [] = Unit {0}
+Successive policy table keeper t (x ∷ xs) =
+    Accepted policy table keeper t x × Successive policy (x .table′) (x .keeper′) (asTotals (x .ran .totals)) xs
 
--- the two calls leave what the one leaves, where the whole has n packets and the parts a and b
-pub record SameRun (c : CutRun) (n a b : ℕ) : Type 0 where
-  pub packets : n ≡ a + b
-  pub outcomes : toldBytes n (c .out′) ≡ toldBytes a (c .out₁′) ++ toldBytes b (c .out₂′)
-  pub table : c .table′ ≡ c .table₂
-  pub keeper : c .keeper′ ≡ c .keeper₂
-  pub totals : left (wholeCall c) ≡ left (secondCall c)
+abbrev pub lastPart : Part → List Part → Part
+lastPart x [] = x
+lastPart x (y ∷ ys) = lastPart y ys
 
--- where all three are accepted, and the second starts with the totals that the first left
+-- the trace that the parts make
+abbrev pub joined : List Part → List ℕ
+joined xs = flatten (map (λ (x : Part). x .trace) xs)
+
+-- the outcomes that a call told, byte by byte
+abbrev pub packetsIn : RunAnswer → ℕ
+packetsIn (Refused r) = 0
+packetsIn (Packets n) = n
+
+abbrev pub toldBytes : Part → List ℕ
+toldBytes x = take (outcomeSize * packetsIn (x .ran .answer)) (x .out′)
+
+-- the parts' calls leave what the one call of the whole leaves
+pub record SameRun (whole first : Part) (more : List Part) : Type 0 where
+  pub outcomes : toldBytes whole ≡ flatten (map toldBytes (first ∷ more))
+  pub table : whole .table′ ≡ lastPart first more .table′
+  pub keeper : whole .keeper′ ≡ lastPart first more .keeper′
+  pub totals : asTotals (whole .ran .totals) ≡ asTotals (lastPart first more .ran .totals)
+
+-- a trace that is accepted whole, cut between records into parts that are each accepted in succession
 abbrev pub CutPromise : Type 0
-CutPromise = (t : Totals) (c : CutRun) (n a b : ℕ) → Made t (wholeCall c) → Made t (firstCall c) → Made (left (firstCall c)) (secondCall c)
-    → c .ran .answer ≡ Packets n → c .ran₁ .answer ≡ Packets a → c .ran₂ .answer ≡ Packets b → SameRun c n a b
+CutPromise = (policy table keeper : List ℕ) (t : Totals) (whole first : Part) (more : List Part)
+    → Accepted policy table keeper t whole → Successive policy table keeper t (first ∷ more) → whole .trace ≡ joined (first ∷ more)
+    → SameRun whole first more
