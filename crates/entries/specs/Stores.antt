@@ -8,8 +8,12 @@ use Rattle.ends.specs.Ends.{isNewer, afterWrite}
 use Rattle.ternary.specs.Sizes.{keySize}
 use Rattle.slots.specs.Slots.{slots, putSlot}
 
--- what it is to store a write, whose slot then is x: the slot's bytes are replaced where the write is newer, and no other byte is
+-- the table's bytes once a write is stored: those of its slot are replaced where the write is newer, and no other
+abbrev pub storedBytes : List ℕ → Write → List ℕ
+storedBytes table w = cond (isNewer (slots keySize table) w) (putSlot keySize table (w .slot) (written (entryIn w))) table
+
+-- what it is to store a write, whose slot then is x
 pub record Stored (table : List ℕ) (w : Write) (x : Slot) (after : List ℕ) : Type 0 where
   pub slot : x ≡ slotAt (afterWrite (slots keySize table) w) (w .slot)
-  pub bytes : after ≡ cond (isNewer (slots keySize table) w) (putSlot keySize table (w .slot) (written (entryIn w))) table
+  pub bytes : after ≡ storedBytes table w
   pub meaning : slots keySize after ≡ afterWrite (slots keySize table) w

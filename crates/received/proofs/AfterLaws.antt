@@ -11,18 +11,17 @@ use Rattle.ends.specs.Records.{Slot, slotAt, entryIn, written}
 use Rattle.ends.specs.Ends.{counted, countedAt, firstFor, afterLookup, isNewer, afterWrite}
 use Rattle.ends.proofs.Slots.{found}
 use Rattle.ternary.specs.Sizes.{keySize, positions}
-use Rattle.buffers.specs.Parts.{spelled}
 use Rattle.buffers.proofs.PartLaws.{part-length, part-bytes}
 use Rattle.buffers.proofs.ByteLaws.{two-below, four-below}
 use Rattle.records.specs.Layout.{slotSize, writeSequence, writeValue, writeMask, writeAction, writeRule, writeSize}
 use Rattle.checks.specs.Refusals.{unlessRefused}
 use Rattle.checks.specs.declared.refusal.Refusal.{Refusal}
-use Rattle.slots.specs.Slots.{encodeSlot, slotCount, slots, putSlot}
+use Rattle.slots.specs.Slots.{slotCount, slots, putSlot}
 use Rattle.slots.specs.Refusals.{WholeSlots}
-use Rattle.slots.proofs.SlotLaws.{slot-count, slot-at, slots-spell, length-put-slot, slots-put}
-use Rattle.slots.proofs.ByteSlots.{ByteSlot, slot-byte, counted-byte, put-bytes, put-spelled}
+use Rattle.slots.proofs.SlotLaws.{slot-count, slot-at, length-put-slot, slots-put}
+use Rattle.slots.proofs.ByteSlots.{ByteSlot, slot-byte, counted-byte, put-bytes}
 use Rattle.messages.specs.Writes.{decodeWrite}
-use Rattle.table.specs.Lookups.{lookupRefusal, slotsAfterLookup, tableAfterLookup}
+use Rattle.table.specs.Lookups.{lookupRefusal, countedBytes, slotsAfterLookup, tableAfterLookup}
 use Rattle.received.specs.Writes.{writeCallRefusal, slotsAfterWrite, tableAfterWrite}
 use Rattle.table.proofs.LookupLaws.{lookup-whole}
 use Rattle.received.proofs.WriteLaws.{good-call}
@@ -38,23 +37,16 @@ module _ (table : List ℕ) (h : Bytes table) where
   same = record { long = refl; bytes = h; meaning = refl }
 
   module _ (whole : WholeSlots table) where
-    -- the slots as they are spell the table
-    kept : Became table (slots keySize table) (spelled encodeSlot (slots keySize table))
-    kept = rw (slots-spell keySize table (whole .whole) h) same
-
     -- one slot is another
     replaced : (i : ℕ) (x : Slot) → i < slotCount keySize table → ByteSlot keySize x
-        → Became table (set (slots keySize table) i x) (spelled encodeSlot (set (slots keySize table) i x))
+        → Became table (set (slots keySize table) i x) (putSlot keySize table i x)
     replaced i x l b =
         let room : slotSize keySize * i + slotSize keySize ≤ length table = omega (arith, whole .whole) in
-        let put : Became table (set (slots keySize table) i x) (putSlot keySize table i x) =
         record {
           long = length-put-slot keySize table i x l room (b .fits);
           bytes = put-bytes keySize table i l room h x b;
           meaning = slots-put keySize table i x l room (b .fits);
         }
-        in
-        rw (put-spelled keySize table i l room h x b (whole .whole)) put
 
     -- a slot of the table with one hit more
     counted-there : (i : ℕ) → i < slotCount keySize table → ByteSlot keySize (counted (slotAt (slots keySize table) i))
@@ -67,9 +59,9 @@ module _ (table : List ℕ) (h : Bytes table) where
   module _ (key : List ℕ) (room : ℕ) where
     after-found : (o : Option Refusal) (f : Option ℕ) → lookupRefusal key table room ≡ o → firstFor positions (slots keySize table) key ≡ f
         → Became table (unlessRefused o (slots keySize table) (countedAt (slots keySize table) f))
-        (unlessRefused o table (spelled encodeSlot (countedAt (slots keySize table) f)))
+        (unlessRefused o table (countedBytes table f))
     after-found (some r) f e k = same
-    after-found none none e k = kept (lookup-whole key table room e)
+    after-found none none e k = same
     after-found none (some i) e k =
         let l : i < slotCount keySize table = omega (arith, found positions (slots keySize table) key i k .inside, slot-count keySize table) in
         replaced (lookup-whole key table room e) i _ l (counted-there (lookup-whole key table room e) i l)
@@ -102,9 +94,10 @@ module _ (table : List ℕ) (h : Bytes table) where
     after-newer : (o : Option Refusal) (newer : Bool) → writeCallRefusal table m room ≡ o
         → let w = decodeWrite keySize m in
         let new = cond newer (set (slots keySize table) (w .slot) (written (entryIn w))) (slots keySize table) in
-        Became table (unlessRefused o (slots keySize table) new) (unlessRefused o table (spelled encodeSlot new))
+        let bytes = cond newer (putSlot keySize table (w .slot) (written (entryIn w))) table in
+        Became table (unlessRefused o (slots keySize table) new) (unlessRefused o table bytes)
     after-newer (some r) newer e = same
-    after-newer none false e = kept (good-call table m room .0 e .whole)
+    after-newer none false e = same
     after-newer none true e =
         let g = good-call table m room .0 e in
         replaced (g .whole) (decodeWrite keySize m .slot) _ (g .good .slot-there) (written-there (g .good .long))

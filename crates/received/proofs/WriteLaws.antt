@@ -1,28 +1,26 @@
 -- Which writes are refused, and what one that is not comes to. Assumes nothing.
-use mathlib.Core.Path.{_≡_, refl, sym}
+use mathlib.Core.Path.{_≡_, refl}
 use mathlib.Core.Bool.{not}
 use mathlib.Core.List.{List}
 use mathlib.Core.Option.{Option, none, some}
 use mathlib.Core.Logic.{_↔_}
-use Prim.Native.Nat.{ℕ, _*_}
+use Prim.Native.Nat.{ℕ}
 use native.Mathlib.Omega.{arith}
 use lib.Dec.{leb, ltb, eqb}
 use lib.ListN.{length, getD}
 use borrow.Author.Tests.{leb-true, ltb-true, eqb-true, eqb-false, le-leb, lt-ltb, eq-eqb, ne-eqb}
-use Rattle.model.specs.Bits.{Bytes}
 use Rattle.ends.specs.Records.{Slot, Write, reportFor}
-use Rattle.ends.specs.Ends.{afterWrite, writeReport}
+use Rattle.ends.specs.Ends.{writeReport}
 use Rattle.model.proofs.Cases.{not-true}
 use Rattle.ternary.specs.Sizes.{keySize}
 use Rattle.buffers.specs.Parts.{splice}
-use Rattle.records.specs.Layout.{slotSize, writeKind, isWrite, writeSize, reportSize}
+use Rattle.records.specs.Layout.{writeKind, isWrite, writeSize, reportSize}
 use Rattle.checks.specs.Flaws.{isFlawed, writeFlaw}
 use Rattle.checks.specs.declared.refusal.Refusal.{Refusal}
 use Rattle.checks.proofs.CleanLaws.{clean-of}
 use Rattle.checks.proofs.RefusalLaws.{none-first, need-none}
-use Rattle.slots.specs.Slots.{slotCount, slots}
+use Rattle.slots.specs.Slots.{slotCount}
 use Rattle.slots.specs.Refusals.{slotsRefusal}
-use Rattle.slots.proofs.SlotLaws.{slots-spell}
 use Rattle.slots.proofs.FitLaws.{slots-accepted}
 use Rattle.messages.specs.Writes.{decodeWrite}
 use Rattle.messages.specs.Reports.{encodeReport}
@@ -98,16 +96,14 @@ module _ (table m out : List ℕ) where
       record { answer = rw refused; bytes = rw refused; meaning = rw refused; told = rw refused }
 
   pub received-taken : (w : Write) (x : Slot) (table′ out′ : List ℕ) → Taken ≡ takenOf (writeCallRefusal table m (length out))
-      → w ≡ decodeWrite keySize m → Stored table w x table′ → length table′ ≡ length table → Bytes table′
-      → out′ ≡ splice 0 (encodeReport (reportFor (w .slot) x)) out → Received table m out Taken table′ out′
+      → w ≡ decodeWrite keySize m → Stored table w x table′ → out′ ≡ splice 0 (encodeReport (reportFor (w .slot) x)) out
+      → Received table m out Taken table′ out′
   unfolding slotsAfterWrite tableAfterWrite outAfterWrite writeReport
-  received-taken w x table′ out′ e d s l h t =
+  received-taken w x table′ out′ e d s t =
       let good : writeCallRefusal table m (length out) ≡ none = taken-passed (writeCallRefusal table m (length out)) e in
-      let whole : length table′ ≡ slotSize keySize * slotCount keySize table′ = rw l (taken-good table m (length out) e .whole .whole) in
-      let after : slots keySize table′ ≡ afterWrite (slots keySize table) (decodeWrite keySize m) = rw d at (s .meaning) in
       record {
         answer = rw good;
-        bytes = rw (good, ← after) (sym (slots-spell keySize table′ whole h));
-        meaning = rw good after;
+        bytes = rw good (rw d at (s .bytes));
+        meaning = rw good (rw d at (s .meaning));
         told = rw (good, ← d, ← s .slot) t;
       }

@@ -10,17 +10,18 @@ use Rattle.ends.specs.Records.{Slot}
 use Rattle.model.specs.Refusals.{ragged, badRecord, wrongKind, noSuchSlot, sequenceZero}
 use Rattle.ends.specs.Ends.{afterWrite, writeReport}
 use Rattle.ternary.specs.Sizes.{keySize}
-use Rattle.buffers.specs.Parts.{splice, spelled}
+use Rattle.buffers.specs.Parts.{splice}
 use Rattle.records.specs.Layout.{writeKind, isWrite, writeSize, reportSize}
 use Rattle.checks.specs.Refusals.{orElse, need, unlessRefused}
 use Rattle.checks.specs.Flaws.{isFlawed, writeFlaw}
 use Rattle.checks.specs.declared.refusal.Refusal.{Refusal}
 use Rattle.checks.specs.declared.flaw.Flaw.the-variants.{Clean}
-use Rattle.slots.specs.Slots.{encodeSlot, slotCount, slots}
+use Rattle.slots.specs.Slots.{slotCount, slots}
 use Rattle.slots.specs.Refusals.{slotsRefusal, WholeSlots}
 use Rattle.messages.specs.Writes.{decodeWrite}
 use Rattle.messages.specs.Reports.{encodeReport}
 use Rattle.table.specs.Lookups.{roomRefusal}
+use Rattle.entries.specs.Stores.{storedBytes}
 use Rattle.received.specs.declared.write.WriteAnswer.{WriteAnswer}
 use Rattle.received.specs.declared.write.WriteAnswer.the-variants.{Refused, Taken}
 
@@ -43,14 +44,14 @@ abbrev pub takenOf : Option Refusal → WriteAnswer
 takenOf (some r) = Refused r
 takenOf none = Taken
 
--- the slots after it, and their bytes; a refusal changes none
+-- the slots after it, and the table's bytes; a refusal changes none
 unfoldable pub slotsAfterWrite : List ℕ → List ℕ → ℕ → List Slot
 slotsAfterWrite table m room =
     unlessRefused (writeCallRefusal table m room) (slots keySize table) (afterWrite (slots keySize table) (decodeWrite keySize m))
 
 unfoldable pub tableAfterWrite : List ℕ → List ℕ → ℕ → List ℕ
 tableAfterWrite table m room =
-    unlessRefused (writeCallRefusal table m room) table (spelled encodeSlot (afterWrite (slots keySize table) (decodeWrite keySize m)))
+    unlessRefused (writeCallRefusal table m room) table (storedBytes table (decodeWrite keySize m))
 
 -- the report of the slot as it then is, at the start of the output; its other bytes stay
 unfoldable pub outAfterWrite : List ℕ → List ℕ → List ℕ → List ℕ

@@ -1,25 +1,24 @@
 -- What a lookup comes to, from the slot that is found. Assumes nothing.
-use mathlib.Core.Path.{_≡_, refl, sym, ap, _∙_}
+use mathlib.Core.Path.{_≡_, refl, ap, _∙_}
 use mathlib.Core.List.{List}
 use mathlib.Core.Option.{Option, none, some}
-use Prim.Native.Nat.{ℕ, _*_, _≤_, _<_}
+use Prim.Native.Nat.{ℕ, _≤_, _<_}
 use native.Mathlib.Omega.{arith}
 use lib.Dec.{leb}
-use lib.ListN.{length, set}
+use lib.ListN.{length}
 use borrow.Author.Tests.{leb-true}
-use Rattle.model.specs.Bits.{Bytes}
 use Rattle.ends.specs.Records.{Slot, slotAt, reportFor}
 use Rattle.ends.specs.Ends.{counted, firstFor, lookup, afterLookup}
 use Rattle.ends.proofs.Slots.{found}
 use Rattle.ternary.specs.Sizes.{keySize, positions}
 use Rattle.buffers.specs.Parts.{splice}
-use Rattle.records.specs.Layout.{slotSize, reportSize, mostSlots}
+use Rattle.records.specs.Layout.{reportSize, mostSlots}
 use Rattle.checks.specs.declared.refusal.Refusal.{Refusal}
 use Rattle.checks.proofs.RefusalLaws.{none-first, need-none}
 use Rattle.checks.specs.Keys.{keyRefusal}
 use Rattle.slots.specs.Slots.{slotCount, slots}
 use Rattle.slots.specs.Refusals.{slotsRefusal, WholeSlots}
-use Rattle.slots.proofs.SlotLaws.{slot-count, slot-at, slots-spell}
+use Rattle.slots.proofs.SlotLaws.{slot-count, slot-at}
 use Rattle.slots.proofs.FitLaws.{slots-accepted}
 use Rattle.hits.specs.Hits.{Counted}
 use Rattle.messages.specs.Reports.{encodeReport}
@@ -83,33 +82,24 @@ module _ (key table out : List ℕ) where
       let refused = of-refused (lookupRefusal key table (length out)) (firstFor positions (slots keySize table) key) r e in
       record { answer = rw refused; bytes = rw refused; meaning = rw refused; told = rw refused }
 
-  pub looked-missed : Bytes table → FoundMiss ≡ findAnswer key table (length out) → LookedUp key table out Miss table out
+  pub looked-missed : FoundMiss ≡ findAnswer key table (length out) → LookedUp key table out Miss table out
   unfolding findAnswer lookupAnswer slotsAfterLookup tableAfterLookup outAfterLookup lookup afterLookup
-  looked-missed h e =
+  looked-missed e =
       let m = of-miss (lookupRefusal key table (length out)) (firstFor positions (slots keySize table) key) e in
-      record {
-        answer = rw (m .0, m .1);
-        bytes = rw (m .0, m .1) (sym (slots-spell keySize table (lookup-whole key table (length out) (m .0) .whole) h));
-        meaning = rw (m .0, m .1);
-        told = rw (m .0, m .1);
-      }
+      record { answer = rw (m .0, m .1); bytes = rw (m .0, m .1); meaning = rw (m .0, m .1); told = rw (m .0, m .1) }
 
   pub looked-hit : (i : ℕ) (x : Slot) (table′ out′ : List ℕ) → FoundSlot i ≡ findAnswer key table (length out) → Counted table i x table′
-      → length table′ ≡ length table → Bytes table′ → out′ ≡ splice 0 (encodeReport (reportFor i x)) out
+      → out′ ≡ splice 0 (encodeReport (reportFor i x)) out
       → LookedUp key table out (Hit i (x .rule) (x .action)) table′ out′
   unfolding lookupAnswer slotsAfterLookup tableAfterLookup outAfterLookup lookup afterLookup
-  looked-hit i x table′ out′ e c l h t =
+  looked-hit i x table′ out′ e c t =
       let m = hit-there key table (length out) i e in
       let there : x ≡ counted (slotAt (slots keySize table) i) =
       rw (slot-at keySize table i (hit-below key table (length out) i e)) (c .slot)
       in
-      let after : slots keySize table′ ≡ set (slots keySize table) i (counted (slotAt (slots keySize table) i)) = rw there at (c .put .meaning) in
-      let whole : length table′ ≡ slotSize keySize * slotCount keySize table′ =
-      rw l (lookup-whole key table (length out) (m .0) .whole)
-      in
       record {
         answer = rw (m .0, m .1, there);
-        bytes = rw (m .0, m .1, ← after) (sym (slots-spell keySize table′ whole h));
-        meaning = rw (m .0, m .1) after;
+        bytes = rw (m .0, m .1) (rw there at (c .put .bytes));
+        meaning = rw (m .0, m .1) (rw there at (c .put .meaning));
         told = rw (m .0, m .1) (t ∙ ap (λ (y : Slot). splice 0 (encodeReport (reportFor i y)) out) there);
       }

@@ -5,16 +5,16 @@ use mathlib.Core.Option.{Option, none, some}
 use Prim.Native.Nat.{ℕ, _≤_}
 use lib.Dec.{leb}
 use lib.ListN.{length}
-use Rattle.ends.specs.Records.{Slot}
+use Rattle.ends.specs.Records.{Slot, slotAt}
 use Rattle.model.specs.Refusals.{shortOutput}
-use Rattle.ends.specs.Ends.{Hit, firstFor, lookup, afterLookup}
+use Rattle.ends.specs.Ends.{Hit, counted, firstFor, lookup, afterLookup}
 use Rattle.ternary.specs.Sizes.{keySize, positions}
-use Rattle.buffers.specs.Parts.{splice, spelled}
+use Rattle.buffers.specs.Parts.{splice}
 use Rattle.records.specs.Layout.{reportSize}
 use Rattle.checks.specs.Refusals.{orElse, need, unlessRefused}
 use Rattle.checks.specs.declared.refusal.Refusal.{Refusal}
 use Rattle.checks.specs.Keys.{keyRefusal}
-use Rattle.slots.specs.Slots.{encodeSlot, slots}
+use Rattle.slots.specs.Slots.{slots, putSlot}
 use Rattle.slots.specs.Refusals.{slotsRefusal, WholeSlots}
 use Rattle.messages.specs.Reports.{encodeReport}
 use Rattle.table.specs.declared.lookup.Found.{Found}
@@ -63,14 +63,19 @@ answerOf none (some h) = HitAt (h .slot) (h .rule) (h .action)
 unfoldable pub lookupAnswer : List ℕ → List ℕ → ℕ → LookupAnswer
 lookupAnswer key table room = answerOf (lookupRefusal key table room) (lookup positions (slots keySize table) key)
 
--- the slots after it, and their bytes: a hit is counted; a miss and a refusal change none
+-- the slots after it: a hit is counted; a miss and a refusal change none
 unfoldable pub slotsAfterLookup : List ℕ → List ℕ → ℕ → List Slot
 slotsAfterLookup key table room =
     unlessRefused (lookupRefusal key table room) (slots keySize table) (afterLookup positions (slots keySize table) key)
 
+-- and the table's bytes: on a hit those of that slot are replaced, and no other
+abbrev pub countedBytes : List ℕ → Option ℕ → List ℕ
+countedBytes table none = table
+countedBytes table (some i) = putSlot keySize table i (counted (slotAt (slots keySize table) i))
+
 unfoldable pub tableAfterLookup : List ℕ → List ℕ → ℕ → List ℕ
 tableAfterLookup key table room =
-    unlessRefused (lookupRefusal key table room) table (spelled encodeSlot (afterLookup positions (slots keySize table) key))
+    unlessRefused (lookupRefusal key table room) table (countedBytes table (firstFor positions (slots keySize table) key))
 
 -- the report of a hit at the start of the output; its other bytes stay
 abbrev pub toldOf : Option Hit → List ℕ → List ℕ

@@ -4,7 +4,6 @@ use mathlib.Core.Path.{_≡_, sym, ap, _∙_}
 use native.Mathlib.Omega.{arith}
 use lib.ListN.{length}
 use Rattle.ends.specs.Records.{Write}
-use Rattle.ternary.proofs.ByteLaws.{bytes-of}
 use Rattle.slots.specs.Structs.{asSlot}
 use Rattle.messages.specs.Structs.{asWrite}
 use Rattle.received.specs.Writes.{writeCallRefusal, takenOf, GoodCall}
@@ -38,11 +37,10 @@ put-report-requires c κs = good (c .before .before .before .before .before .bef
 
 returns-2 : tie.Need-returns-2
 returns-2 c =
-    let k = c .before .before .before .before in
-    let s = k .before .before in
+    let s = c .before .before .before .before .before .before in
     let n = s .before .before in
     received-taken _ _ _ (asWrite (n .write-of .result)) (asSlot (s .store .result)) _ _ (taken (n .before)) (n .write-of .ensures)
-    (s .store .ensures) (search needs) (bytes-of _ (k .slice-known3 .given)) (c .before .before .put-report .ensures)
+    (s .store .ensures) (c .before .before .put-report .ensures)
 
 pub write-spec : {M : Type 1} → statement M
 write-spec =

@@ -3,7 +3,6 @@ use borrow.Author.Needs.{needs}
 use mathlib.Core.Path.{_≡_, sym, _∙_}
 use native.Mathlib.Omega.{arith}
 use lib.ListN.{length}
-use Rattle.ternary.proofs.ByteLaws.{bytes-of}
 use Rattle.slots.specs.Structs.{asSlot}
 use Rattle.table.specs.Lookups.{findAnswer}
 use Rattle.table.specs.declared.lookup.Found.the-variants.{Slot}
@@ -32,16 +31,14 @@ returns : tie.Need-returns
 returns c = looked-refused _ _ _ _ (sym (c .before .refusal .given .1) ∙ c .before .before .before .find .ensures)
 
 returns-2 : tie.Need-returns-2
-returns-2 c =
-    let k = c .before .before in
-    looked-missed _ _ _ (bytes-of _ (k .before .before .before .slice-known .given)) (sym (c .enum-told .given .1) ∙ k .find .ensures)
+returns-2 c = looked-missed _ _ _ (sym (c .enum-told .given .1) ∙ c .before .before .find .ensures)
 
 returns-3 : tie.Need-returns-3
 returns-3 c =
     let k = c .before .before .before .before in
     let n = k .before .before in
     looked-hit _ _ _ _ (asSlot (n .count .result)) _ _ (there (n .before .before .before)) (n .count .ensures)
-    (search needs) (bytes-of _ (k .slice-known3 .given)) (c .before .before .put-report .ensures)
+    (c .before .before .put-report .ensures)
 
 pub lookup-spec : {M : Type 1} → statement M
 lookup-spec =
