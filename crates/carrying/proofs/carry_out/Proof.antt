@@ -1,6 +1,7 @@
 -- `carrying::carry_out` meets its contract: no write, too short an output, or the entry and the write. Assumes nothing.
 use borrow.Author.Needs.{needs}
 use mathlib.Core.Path.{sym, _∙_}
+use native.Mathlib.Omega.{arith}
 use Rattle.model.proofs.Cases.{not-true, not-false}
 use Rattle.carrying.proofs.CarryLaws.{carried-quiet, carried-short, carried-given}
 use Rattle.carrying.proofs.carry_out.Statement.{statement}
@@ -12,7 +13,7 @@ returns c = carried-quiet _ _ _ (c .before .gives-write .ensures) (not-true (c .
 returns-2 : tie.Need-returns-2
 returns-2 c =
     let t = c .before in
-    carried-short _ _ _ (t .before .gives-write .ensures) (not-false (t .if1 .left)) (c .if2 .taken)
+    carried-short _ _ _ (t .before .gives-write .ensures) (not-false (t .if1 .left)) (omega (arith, c .if2 .taken))
 
 place-entry-requires : tie.Need-place-entry-requires
 place-entry-requires c κs =

@@ -21,7 +21,7 @@ mul-if2 c = omega (arith, cover-few _ _ (c .before .dependents-of .ensures), tak
 returns-2 : tie.Need-returns-2
 returns-2 c =
     let d = c .before .before in
-    refused-short _ _ _ (taken (d .before .before .before)) (d .before .if1 .left) (d .dependents-of .ensures) (c .if2 .taken)
+    refused-short _ _ _ (taken (d .before .before .before)) (d .before .if1 .left) (d .dependents-of .ensures) (omega (arith, c .if2 .taken))
 
 put-numbers-requires : tie.Need-put-numbers-requires
 put-numbers-requires c κs =

@@ -20,7 +20,8 @@ mul-if2 c =
 returns-2 : tie.Need-returns-2
 returns-2 c =
     let f = c .before .before .before in
-    refused-short _ _ (f .before .slots-fit .ensures) (not-false (f .if1 .left)) (c .before .before .open-slots .ensures) (c .if2 .taken)
+    refused-short _ _ (f .before .slots-fit .ensures) (not-false (f .if1 .left)) (c .before .before .open-slots .ensures)
+    (omega (arith, c .if2 .taken))
 
 put-numbers-requires : tie.Need-put-numbers-requires
 put-numbers-requires c κs =
