@@ -52,6 +52,12 @@ rounds-holds c =
       going-start _ _ _ _ _ _ _ _ (s .pre .2) (s .pre .1) (c .rule-pattern .ensures),
     )
 
+-- none stands; it is told before the rounds, so that rounds left too early fail here
+returns : tie.Need-returns Inv-loop μ-loop Inv-rounds μ-rounds
+returns c =
+    let r = c .before .before .before in
+    c .with-counts .ensures ∙ going-stop _ _ _ _ _ _ _ _ _ _ (r .rounds .inv .1) (r .rounds .inv .2) (c .before .if1 .taken)
+
 loop-holds : tie.Need-loop-holds Inv-loop μ-loop Inv-rounds μ-rounds
 loop-holds c = (scan-none _ _ (search needs), at-first _ _ _ _)
 
@@ -126,11 +132,6 @@ rounds-again c =
           (scan-chosen _ _ _ _ _ _ (k .loop .inv .0) (c .before .before .if2 .taken)) _ _ (c .left .ensures) (k .before .if1 .left)
           _ _ (c .before .fix-bit .ensures .value-put) (c .before .fix-bit .ensures .mask-put),
     )
-
-returns : tie.Need-returns Inv-loop μ-loop Inv-rounds μ-rounds
-returns c =
-    let r = c .before .before .before in
-    c .with-counts .ensures ∙ going-stop _ _ _ _ _ _ _ _ _ _ (r .rounds .inv .1) (r .rounds .inv .2) (c .before .if1 .taken)
 
 pub isolate-rule-spec : {M : Type 1} → statement M
 isolate-rule-spec =

@@ -22,6 +22,18 @@ returns-2 c =
     )
     (c .refused2 .ensures)
 
+-- nothing is refused; it stands first, so that a test that refuses too little fails here
+returns-4 : tie.Need-returns-4
+unfolding endsRefusal slotsRefusal
+returns-4 c =
+    let i = c .before in
+    let k = i .before in
+    rw (
+      sym (k .before .before .slots-fit .ensures) ∙ not-false (k .before .if1 .left),
+      sym (k .slots-fit2 .ensures) ∙ not-false (i .if2 .left),
+      eq-eqb _ _ (c .if3 .left),
+    )
+
 returns-3 : tie.Need-returns-3
 unfolding endsRefusal slotsRefusal
 returns-3 c =
@@ -33,17 +45,6 @@ returns-3 c =
       ne-eqb _ _ (c .before .if3 .taken),
     )
     (c .refused3 .ensures)
-
-returns-4 : tie.Need-returns-4
-unfolding endsRefusal slotsRefusal
-returns-4 c =
-    let i = c .before in
-    let k = i .before in
-    rw (
-      sym (k .before .before .slots-fit .ensures) ∙ not-false (k .before .if1 .left),
-      sym (k .slots-fit2 .ensures) ∙ not-false (i .if2 .left),
-      eq-eqb _ _ (c .if3 .left),
-    )
 
 pub check-ends-spec : {M : Type 1} → statement M
 check-ends-spec =

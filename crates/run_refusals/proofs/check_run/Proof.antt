@@ -56,6 +56,22 @@ returns-4 c =
     rw (fine-policy (e .before .before .before), fine-trace e, fine-ends d, sym (f .totals-fit .ensures) ∙ not-true (c .before .if1 .taken))
     (c .refused .ensures)
 
+-- nothing is refused; it stands first, so that a test that refuses too little fails here
+returns-6 : tie.Need-returns-6
+unfolding runRefusal
+returns-6 c =
+    let i = c .before in
+    let f = i .before in
+    let d = f .before in
+    let e = d .before .before .before in
+    rw (
+      fine-policy (e .before .before .before),
+      fine-trace e,
+      fine-ends d,
+      sym (f .totals-fit .ensures) ∙ not-false (i .if1 .left),
+      le-leb _ _ (c .if2 .left),
+    )
+
 returns-5 : tie.Need-returns-5
 unfolding runRefusal
 returns-5 c =
@@ -71,21 +87,6 @@ returns-5 c =
       lt-leb _ _ (c .before .if2 .taken),
     )
     (c .refused2 .ensures)
-
-returns-6 : tie.Need-returns-6
-unfolding runRefusal
-returns-6 c =
-    let i = c .before in
-    let f = i .before in
-    let d = f .before in
-    let e = d .before .before .before in
-    rw (
-      fine-policy (e .before .before .before),
-      fine-trace e,
-      fine-ends d,
-      sym (f .totals-fit .ensures) ∙ not-false (i .if1 .left),
-      le-leb _ _ (c .if2 .left),
-    )
 
 pub check-run-spec : {M : Type 1} → statement M
 check-run-spec =

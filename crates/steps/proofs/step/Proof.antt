@@ -4,12 +4,7 @@ use Rattle.steps.proofs.StepLaws.{step-fine, stepped}
 use Rattle.steps.proofs.step.Statement.{statement}
 use Rattle.steps.proofs.step.Tie as tie
 
-one-packet-requires : tie.Need-one-packet-requires
-one-packet-requires c κs =
-    let k = c .before .before in
-    let p = k .before .before .before .before .before .before .pre in
-    step-fine (p .0) (p .1) (k .key-at .ensures)
-
+-- it stands first, so that a step of another packet fails here
 returns : tie.Need-returns
 returns c =
     let o = c .before .before .before in
@@ -17,6 +12,12 @@ returns c =
     let k = d .before .before .before in
     let p = k .before .before .before .before .before .before .pre in
     stepped (p .0) (p .1) (k .key-at .ensures) (d .one-packet .ensures) (o .put-outcome .ensures) (c .advanced .ensures)
+
+one-packet-requires : tie.Need-one-packet-requires
+one-packet-requires c κs =
+    let k = c .before .before in
+    let p = k .before .before .before .before .before .before .pre in
+    step-fine (p .0) (p .1) (k .key-at .ensures)
 
 pub step-spec : {M : Type 1} → statement M
 step-spec =
