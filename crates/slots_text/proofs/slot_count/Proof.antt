@@ -26,11 +26,12 @@ slice-aggregate-number c = sym (length-take-le _ _ (omega arith))
 number-requires : tie.Need-number-requires
 number-requires c κs = simp length-take (omega arith)
 
-returns-5 : tie.Need-returns-5
-returns-5 c = too-large _ (search needs) (search needs) (search needs) (search needs) (c .before .number .ensures) (search needs)
-
+-- it stands before `returns-5`, so that a text taken wrongly fails here
 returns-6 : tie.Need-returns-6
 returns-6 c = a-number _ (search needs) (search needs) (search needs) (search needs) (c .before .number .ensures) (search needs)
+
+returns-5 : tie.Need-returns-5
+returns-5 c = too-large _ (search needs) (search needs) (search needs) (search needs) (c .before .number .ensures) (search needs)
 
 pub slot-count-spec : {M : Type 1} → statement M
 slot-count-spec =
