@@ -1,6 +1,7 @@
 -- `flawed::first_flawed_rule` meets its contract: no record below i has a flaw. Assumes nothing.
 use borrow.Author.Needs.{needs}
 use Prim.Native.Nat.{_≤_, _-_}
+use native.Mathlib.Omega.{arith}
 use Rattle.ternary.specs.Sizes.{keySize}
 use Rattle.records.specs.Layout.{ruleSize}
 use Rattle.checks.specs.Flaws.{ruleFlaw}
@@ -18,7 +19,7 @@ returns : tie.Need-returns Inv-loop μ-loop
 returns c =
     let k = c .before .before .before .before in
     flawed-here (k .before .loop .inv .1) (c .before .before .rule-flaw .ensures) (c .before .is-flawed .ensures) _
-    (k .loop-test .taken) (c .if1 .taken)
+    (omega (arith, k .loop-test .taken)) (c .if1 .taken)
 
 pub first-flawed-rule-spec : {M : Type 1} → statement M
 first-flawed-rule-spec =
