@@ -7,7 +7,8 @@ parts are what this reading says of the earlier.
 """
 from ends import EMPTY, IS_REPORT, IS_WRITE, LARGEST, MOST_SLOTS, NOTHING, Report, Slot, Write, answer
 from ends import call_lookup, call_miss, call_open, call_report, call_show, call_write, encode, end_bytes, size
-from policies import SMALL, V4, key, row, top
+from policies import PRINTED, SMALL, V4, key, row, top
+from questions import Questions
 from rules import policy_bytes, rule_bytes
 
 CALLS = [call_lookup, call_write, call_miss, call_report, call_open, call_show]
@@ -31,22 +32,16 @@ def line(answered, old):
     return said + (f' gives {answered.output.hex()}' if answered.output else '')
 
 
-class Cases:
+class Cases(Questions):
     def __init__(self):
-        self.buffers, self.cases, self.text, self.labels = b'', b'', '', set()
-
-    def place(self, data):
-        """Where these bytes begin in buffers.bin."""
-        if data not in self.buffers:
-            self.buffers += data
-        return self.buffers.index(data)
+        super().__init__()
+        self.labels = set()
 
     def ask(self, label, call, policy=b'', given=b'', state=b'', room=ROOM):
         """Asks one question, and gives its answer."""
         assert label not in self.labels
         self.labels.add(label)
-        numbers = [n for data in (policy, given, state) for n in (self.place(data), len(data))] + [room]
-        self.cases += bytes([CALLS.index(call) + 1, len(label), 0, 0]) + b''.join(n.to_bytes(4, 'big') for n in numbers) + label.encode()
+        self.add([CALLS.index(call) + 1, len(label), 0, 0], self.places(policy, given, state) + [room], label)
         answered = answer(call, policy, given, state, room)
         self.text += f'{label} {line(answered, state)}\n'
         return answered
@@ -93,7 +88,7 @@ def printed_run(cases):
     """The printed example, call by call, with the open list after each."""
     table = keeper = end_bytes([EMPTY] * 2)
     told = []
-    for n, text in enumerate(['1000', '0000', '1010', '1001', '1111', '0100']):
+    for n, text in enumerate(PRINTED):
         name = f'run.{n}.{text}'
         cases.ask(f'{name}.show', call_show, policy=POLICY, given=key(text), state=table)
         hit = cases.ask(f'{name}.lookup', call_lookup, given=key(text), state=table)
@@ -378,5 +373,4 @@ def make():
     cases = Cases()
     for ask in (refusals, printed_run, two_writes, lookups, writes, misses, reports, opens, shows):
         ask(cases)
-    return {'crates/ends_test/data/buffers.bin': cases.buffers, 'crates/ends_test/data/cases.bin': cases.cases,
-            'crates/ends_test/stdout': cases.text.encode()}
+    return cases.files('ends_test', 'buffers.bin')

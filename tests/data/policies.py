@@ -1,5 +1,5 @@
-"""The policies that tests ask about: the small policy and the papers' examples (V1 to V9)."""
-from rules import BITS, Rule
+"""The policies that tests ask about, with keys: the small policy and the papers' examples (V1 to V9)."""
+from rules import BITS, Rule, policy_bytes
 
 
 def row(text, one):
@@ -35,6 +35,8 @@ def tuple_rule(priority, src=None, dst=None, dport=None, protocol=None, action=0
 
 
 SMALL = [top('11**', 30, 7), top('1*1*', 20, 8), top('****', 10, 9)]
+# the keys of the printed example
+PRINTED = ['1000', '0000', '1010', '1001', '1111', '0100']
 
 # V1: document 003, figure 4
 OVERLAPS = [top('011', 3), top('*1*', 2), top('1**', 1)]
@@ -58,6 +60,12 @@ V6 = [tuple_rule(32800, dport=179, protocol=6), tuple_rule(32800, dport=646, pro
       tuple_rule(16640, dst=('111.221.69.0', 24)), tuple_rule(16640, dst=('111.221.66.0', 24)), tuple_rule(16630, dst=('111.221.78.0', 23)),
       tuple_rule(16610, dst=('111.221.64.0', 21)), tuple_rule(16610, dst=('111.221.112.0', 21)), tuple_rule(16580, dst=('111.221.64.0', 18))]
 
+
+def to_v6(third, fourth, protocol, dport):
+    """A key to an address of V6's networks."""
+    return fields('10.0.0.1', f'111.221.{third}.{fourth}', 1024, dport, protocol)
+
+
 # V7: document 002, figure 3(c)
 V7 = [tuple_rule(5, src=('1.0.0.0', 24), dst=('2.0.0.1', 32)), tuple_rule(4, src=('1.0.0.0', 24), dst=('2.0.0.2', 32)),
       tuple_rule(3, src=('1.0.0.0', 24)), tuple_rule(2, dst=('2.0.0.1', 32)), tuple_rule(1, dst=('2.0.0.2', 32))]
@@ -68,3 +76,16 @@ V8 = [top(p, 6 - n) for n, p in enumerate(['00000*', '***000', '11****', '010***
 # V9: document 001, table I
 V9 = [top(p, n) for p, n in [('111000', 9), ('***0**', 6), ('10*0**', 4), ('10*10*', 4), ('10*110', 4), ('1**110', 0), ('001***', 2),
                              ('11*001', 7), ('11*010', 7), ('110010', 8)]]
+
+
+def numbered(rules, first=0):
+    """A policy with an action for each rule, counted from `first`."""
+    return policy_bytes([r._replace(action=i + first) for i, r in enumerate(rules)])
+
+
+# the papers' examples as traces: name, slots, policy, keys
+PAPER_TRACES = [
+    ('V2', 2, numbered(V2), [key(text) for text in ('010011', '000111', '011011', '010011', '001101', '111111')]),
+    ('V5', 3, numbered(V5[:6], 1), [key(text) for text in ('101', '001', '010', '011', '100', '110', '111', '000')]),
+    ('V6', 4, numbered(V6), [to_v6(69, 7, 6, 80), to_v6(67, 7, 6, 80), to_v6(100, 7, 17, 80), to_v6(64, 1, 6, 179), to_v6(64, 1, 17, 646),
+                             to_v6(67, 7, 6, 80)])]

@@ -4,7 +4,8 @@ Two files ask them: policies.bin, in which each policy is a part, and cases.bin,
 question 1, label's length 1, key's length 1, zero 1, then five numbers of four bytes: where the policy begins and how long it is, the rule
 number, the output's length (the other rule's number where the question is whether two overlap), zero; then the label and the key.
 """
-from policies import OVERLAPS, PARTED, SMALL, V2, V3, V4, V4_ONE_FIELD, V5, V6, V7, V8, V9, fields, key, top
+from policies import OVERLAPS, PARTED, SMALL, V2, V3, V4, V4_ONE_FIELD, V5, V6, V7, V8, V9, fields, key, to_v6, top
+from questions import Questions
 from rules import KEY, RULE, Refused, Rule, call_best, call_check, call_cover, call_isolate, call_record
 from rules import overlap, policy_bytes, read_policy, rule_bytes
 
@@ -41,19 +42,9 @@ def line(question, data, key_, number, room):
                             f' fixed {answer.fixed} wildcards {answer.wildcards}')
 
 
-class Cases:
-    def __init__(self):
-        self.policies, self.cases, self.text = b'', b'', ''
-
-    def place(self, data):
-        """Where these bytes begin in policies.bin."""
-        if data not in self.policies:
-            self.policies += data
-        return self.policies.index(data)
-
+class Cases(Questions):
     def ask(self, label, question, data, key_=b'', number=0, room=4096):
-        numbers = (self.place(data), len(data), number, room, 0)
-        self.cases += bytes([question, len(label), len(key_), 0]) + b''.join(n.to_bytes(4, 'big') for n in numbers) + label.encode() + key_
+        self.add([question, len(label), len(key_), 0], self.places(data) + [number, room, 0], label, key_)
         self.text += f'{label} {line(question, data, key_, number, room)}\n'
 
     def ask_all(self, name, policy, keys):
@@ -73,10 +64,6 @@ def shown(*texts):
     return [(text, key(text)) for text in texts]
 
 
-def to(third, fourth, protocol, dport, name):
-    return name, fields('10.0.0.1', f'111.221.{third}.{fourth}', 1024, dport, protocol)
-
-
 def vectors(cases):
     cases.ask_all('small', SMALL, shown('1111', '1010', '0000', '1000'))
     cases.ask_all('V1.lap', OVERLAPS, shown('011', '010', '111'))
@@ -88,8 +75,9 @@ def vectors(cases):
     cases.ask_all('V4', V4, shown('010011111'))
     cases.ask_all('V4.one', V4_ONE_FIELD, shown('010011111'))
     cases.ask_all('V5', V5, shown('000', '001', '010', '011', '100', '101', '110', '111'))
-    cases.ask_all('V6', V6, [to(69, 7, 6, 80, 'R3'), to(67, 7, 6, 80, 'R6'), to(100, 7, 17, 80, 'R8'), to(64, 1, 6, 179, 'R1'),
-                             to(64, 1, 17, 646, 'R6b'), ('none', fields('10.0.0.1', '111.222.0.1', 1024, 80, 6))])
+    cases.ask_all('V6', V6, [('R3', to_v6(69, 7, 6, 80)), ('R6', to_v6(67, 7, 6, 80)), ('R8', to_v6(100, 7, 17, 80)),
+                             ('R1', to_v6(64, 1, 6, 179)), ('R6b', to_v6(64, 1, 17, 646)),
+                             ('none', fields('10.0.0.1', '111.222.0.1', 1024, 80, 6))])
     cases.ask_all('V7', V7, [(f'{s}-{d}', fields(s, d, 0, 0, 0)) for s, d in
                              [('1.0.0.9', '2.0.0.3'), ('9.0.0.9', '2.0.0.1'), ('9.0.0.9', '2.0.0.2'), ('1.0.0.9', '2.0.0.1')]])
     cases.ask_all('V8', V8, shown('000100', '011100', '010000', '001000', '100000', '010001', '010011', '110111', '100100', '111000',
@@ -161,5 +149,4 @@ def make():
     vectors(cases)
     edges(cases)
     refusals(cases)
-    return {'crates/policy_test/data/policies.bin': cases.policies, 'crates/policy_test/data/cases.bin': cases.cases,
-            'crates/policy_test/stdout': cases.text.encode()}
+    return cases.files('policy_test', 'policies.bin')

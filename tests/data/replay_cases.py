@@ -4,9 +4,11 @@ Two files ask the cases: parts.bin, in which each slots.txt, policy.bin and trac
 length 1, zero 3, then six numbers of four bytes: where slots.txt begins and how long it is, and the same of policy.bin and trace.bin; then the
 label.
 """
-from policies import SMALL, V2, V5, V6, fields, key, top
+from policies import PAPER_TRACES, PRINTED, SMALL, key, top
 from program import MOST_POLICY_BYTES, MOST_TRACE_BYTES, printed
+from questions import Questions
 from rules import policy_bytes, rule_bytes
+from runs import packet
 
 POLICY = policy_bytes(SMALL)
 FLAWED = rule_bytes(SMALL[1], spare=1)
@@ -15,11 +17,10 @@ STRAY = rule_bytes(SMALL[0]._replace(value=SMALL[0].value | 1))
 
 
 def packets(*texts):
-    return b''.join(key(text) + bytes(3) for text in texts)
+    return b''.join(packet(key(text)) for text in texts)
 
 
-# the printed example
-TRACE = packets('1000', '0000', '1010', '1001', '1111', '0100')
+TRACE = packets(*PRINTED)
 TWO = b'2\n'
 
 # a text that gives no number of slots
@@ -30,19 +31,9 @@ BAD_SLOTS = [b'', b'\n', b'0\n', b'00\n', b'01\n', b'002\n', b'257\n', b'260\n',
 SLOTS = [1, 2, 3, 9, 10, 11, 19, 99, 100, 101, 199, 200, 249, 250, 255, 256]
 
 
-class Cases:
-    def __init__(self):
-        self.parts, self.cases, self.text = b'', b'', ''
-
-    def place(self, data):
-        """Where these bytes begin in parts.bin."""
-        if data not in self.parts:
-            self.parts += data
-        return self.parts.index(data)
-
+class Cases(Questions):
     def ask(self, label, slots, policy=POLICY, trace=TRACE):
-        numbers = [n for data in (slots, policy, trace) for n in (self.place(data), len(data))]
-        self.cases += bytes([len(label), 0, 0, 0]) + b''.join(n.to_bytes(4, 'big') for n in numbers) + label.encode()
+        self.add([len(label), 0, 0, 0], self.places(slots, policy, trace), label)
         self.text += f'{label}\n{printed(slots, policy, trace)}'
 
 
@@ -91,17 +82,8 @@ def runs(cases):
     every = [f'{i:04b}' for i in range(16)]
     cases.ask('again', b'4\n', many, packets(*(every * 3 + every[::-1] * 2)))
     cases.ask('most', b'8\n', POLICY, packets(*every) * 256)
-    papers(cases)
-
-
-def papers(cases):
-    """The papers' examples as traces, with an action for each rule."""
-    numbered = lambda rules, first=0: policy_bytes([r._replace(action=i + first) for i, r in enumerate(rules)])
-    cases.ask('V2', b'2\n', numbered(V2), packets('010011', '000111', '011011', '010011', '001101', '111111'))
-    cases.ask('V5', b'3\n', numbered(V5[:6], 1), packets('101', '001', '010', '011', '100', '110', '111', '000'))
-    to = lambda third, fourth, protocol, dport: fields('10.0.0.1', f'111.221.{third}.{fourth}', 1024, dport, protocol) + bytes(3)
-    cases.ask('V6', b'4\n', numbered(V6), to(69, 7, 6, 80) + to(67, 7, 6, 80) + to(100, 7, 17, 80) + to(64, 1, 6, 179) + to(64, 1, 17, 646)
-              + to(67, 7, 6, 80))
+    for name, slots, policy, keys in PAPER_TRACES:
+        cases.ask(name, f'{slots}\n'.encode(), policy, b''.join(map(packet, keys)))
 
 
 def program(name, files, text):
@@ -129,6 +111,4 @@ def make():
     example = {'policy.bin': POLICY, 'trace.bin': TRACE, 'slots.txt': TWO}
     return {**{f'examples/small/{path}': data for path, data in example.items()},
             **program('example', example, printed(TWO, POLICY, TRACE)),
-            **refused(),
-            'crates/replay_test/data/parts.bin': cases.parts, 'crates/replay_test/data/cases.bin': cases.cases,
-            'crates/replay_test/stdout': cases.text.encode()}
+            **refused(), **cases.files('replay_test', 'parts.bin')}

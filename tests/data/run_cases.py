@@ -5,20 +5,14 @@ label's length 1, zero 2, then ten numbers of four bytes: where the policy begin
 keeper, where the totals begin (five numbers of eight bytes), the output's length; then the label.
 """
 from ends import EMPTY, LARGEST, MOST_SLOTS, NOTHING, Slot, end_bytes, size
-from ends_cases import FILLER, FLAWED, slot
-from policies import SMALL, V2, V5, V6, fields, key
-from rules import policy_bytes
-from runs import CLEARED, MOST_PACKETS, MOST_TOTAL, OUTCOME, Totals, outcome_bytes, run
+from ends_cases import FILLER, FLAWED, POLICY, slot
+from policies import PAPER_TRACES, PRINTED, key
+from questions import Questions
+from runs import CLEARED, MOST_PACKETS, MOST_TOTAL, OUTCOME, PACKET, Totals, outcome_bytes, packet, run
 
-POLICY = policy_bytes(SMALL)
 SLOT = size(Slot)
 TWO = end_bytes([EMPTY] * 2)
-PRINTED = ['1000', '0000', '1010', '1001', '1111', '0100']
 MANY_BYTES = 1200            # outcomes of more bytes are told by their first and their last
-
-
-def packet(key_, spare=b'\0\0\0'):
-    return key_ + spare
 
 
 def trace(*texts):
@@ -36,23 +30,13 @@ def told(outcomes):
     return f' gives {data.hex()}'
 
 
-class Cases:
-    def __init__(self):
-        self.buffers, self.cases, self.text = b'', b'', ''
-
-    def place(self, data):
-        """Where these bytes begin in buffers.bin."""
-        if data not in self.buffers:
-            self.buffers += data
-        return self.buffers.index(data)
-
+class Cases(Questions):
     def run(self, label, trace_, table=TWO, keeper=None, policy=POLICY, totals=CLEARED, room=None):
         """Asks one run, and gives what it comes to."""
         keeper = table if keeper is None else keeper
-        room = OUTCOME * (len(trace_) // 16) if room is None else room
+        room = OUTCOME * (len(trace_) // PACKET) if room is None else room
         sums = b''.join(n.to_bytes(8, 'big') for n in totals)
-        numbers = [n for data in (policy, trace_, table, keeper) for n in (self.place(data), len(data))] + [self.place(sums), room]
-        self.cases += bytes([0, len(label), 0, 0]) + b''.join(n.to_bytes(4, 'big') for n in numbers) + label.encode()
+        self.add([0, len(label), 0, 0], self.places(policy, trace_, table, keeper) + [self.place(sums), room], label)
         ran = run(policy, trace_, table, keeper, totals, room)
         self.text += (f'{label} {ran.said} totals {" ".join(map(str, ran.totals))}{told(ran.outcomes)}'
                       f'{changed("table", table, ran.table)}{changed("keeper", keeper, ran.keeper)}\n')
@@ -71,15 +55,10 @@ def printed(cases):
 
 
 def papers(cases):
-    """The papers' examples as traces, with an action for each rule."""
-    numbered = lambda rules, first=0: policy_bytes([r._replace(action=i + first) for i, r in enumerate(rules)])
-    ran = cases.run('V2', trace('010011', '000111', '011011', '010011', '001101', '111111'), policy=numbered(V2))
-    assert ran.totals == (6, 2, 3, 1, 1)
-    ran = cases.run('V5', trace('101', '001', '010', '011', '100', '110', '111', '000'), end_bytes([EMPTY] * 3), policy=numbered(V5[:6], 1))
-    assert ran.totals == (8, 2, 6, 0, 3)
-    to = lambda third, fourth, protocol, dport: packet(fields('10.0.0.1', f'111.221.{third}.{fourth}', 1024, dport, protocol))
-    keys = to(69, 7, 6, 80) + to(67, 7, 6, 80) + to(100, 7, 17, 80) + to(64, 1, 6, 179) + to(64, 1, 17, 646) + to(67, 7, 6, 80)
-    cases.run('V6', keys, end_bytes([EMPTY] * 4), policy=numbered(V6))
+    """The papers' examples as traces."""
+    ran = {name: cases.run(name, b''.join(map(packet, keys)), end_bytes([EMPTY] * slots), policy=policy)
+           for name, slots, policy, keys in PAPER_TRACES}
+    assert ran['V2'].totals == (6, 2, 3, 1, 1) and ran['V5'].totals == (8, 2, 6, 0, 3)
 
 
 def odd_states(cases):
@@ -152,5 +131,4 @@ def make():
     cases.place(FILLER + POLICY + FLAWED + b'\0')
     for ask in (refusals, printed, papers, odd_states, lengths, totals):
         ask(cases)
-    return {'crates/run_test/data/buffers.bin': cases.buffers, 'crates/run_test/data/cases.bin': cases.cases,
-            'crates/run_test/stdout': cases.text.encode()}
+    return cases.files('run_test', 'buffers.bin')

@@ -13,6 +13,10 @@ Run = namedtuple('Run', 'said table keeper totals outcomes')
 CLEARED = Totals(0, 0, 0, 0, 0)
 
 
+def packet(key, spare=bytes(PACKET - KEY)):
+    return key + spare
+
+
 def accepted_trace(data):
     """The keys; 1 ragged, 2 too many, 3 with the first record whose zero bytes are not zero."""
     refuse_if(len(data) % PACKET, 1)
