@@ -17,7 +17,7 @@
  * WHAT IS PROMISED
  *
  * Both ends start cleared (all bytes zero), with equally many slots and one accepted policy that stays. Then, after any sequence of misses,
- * lookups, deliveries and refused calls:
+ * lookups, deliveries, runs and refused calls:
  *  - for every packet the table misses, or names the whole policy's best rule with that rule's action;
  *  - every slot in which the ends hold different entries is on the keeper's list of open slots (wg_open). So an empty list means the same
  *    entry in every slot. Hit counts may differ.
