@@ -117,10 +117,11 @@ def refusals(cases):
     wide = b'\0' * 12
     spare = FLAWED
     spare_first = rule_bytes(SMALL[1], spare=256)
-    stray = rule_bytes(SMALL[1]._replace(value=SMALL[1].value | 1))
+    strayed = SMALL[1]._replace(value=SMALL[1].value | 1)
+    stray, both = rule_bytes(strayed), rule_bytes(strayed, spare=1)
     ok = rule_bytes(SMALL[0])
     for name, data in [('ragged', good + b'\0'), ('spare', ok + spare), ('spare.first', spare_first + ok), ('stray', ok + ok + stray + ok),
-                       ('stray.spare', ok + stray + spare), ('spare.stray', ok + spare + stray)]:
+                       ('stray.spare', ok + stray + spare), ('spare.stray', ok + spare + stray), ('both', ok + both + ok)]:
         cases.ask(f'refuse.{name}', CHECK, data)
     bad = ok + spare
     cases.ask('refuse.best.key', BEST, good, wide)

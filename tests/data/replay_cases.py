@@ -94,8 +94,10 @@ def refused():
     """Files that are missing, that can't be read or that are too long: each case in a folder of its own, told by the folder's name and the text."""
     policy, trace, slots = 'policy.bin', 'trace.bin', 'slots.txt'
     cases = {'missing': {},
-             # a folder in the place of policy.bin, which counts as empty
-             'folder': {f'{policy}/kept': POLICY, trace: TRACE, slots: TWO},
+             # a folder in the place of a file, which counts as empty
+             'folder_policy': {f'{policy}/kept': POLICY, trace: TRACE, slots: TWO},
+             'folder_trace': {policy: POLICY, f'{trace}/kept': TRACE, slots: TWO},
+             'folder_slots': {policy: POLICY, trace: TRACE, f'{slots}/kept': TWO},
              'large_policy': {policy: bytes(MOST_POLICY_BYTES + 1), slots: TWO},
              'large_trace': {policy: POLICY, trace: bytes(MOST_TRACE_BYTES + 1), slots: TWO}}
     text = ''.join(f'{name}\n{printed(*(files.get(path, b"") for path in (slots, policy, trace)))}' for name, files in cases.items())

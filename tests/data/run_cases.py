@@ -12,7 +12,6 @@ from runs import CLEARED, MOST_PACKETS, MOST_TOTAL, OUTCOME, PACKET, Totals, out
 
 SLOT = size(Slot)
 TWO = end_bytes([EMPTY] * 2)
-MANY_BYTES = 1200            # outcomes of more bytes are told by their first and their last
 
 
 def trace(*texts):
@@ -23,13 +22,6 @@ def changed(word, old, new):
     return ''.join(f' {word} {at // SLOT} {new[at:at + SLOT].hex()}' for at in range(0, len(old), SLOT) if new[at:at + SLOT] != old[at:at + SLOT])
 
 
-def told(outcomes):
-    data = b''.join(map(outcome_bytes, outcomes))
-    if len(data) > MANY_BYTES:
-        return f' begins {data[:OUTCOME].hex()} ends {data[-OUTCOME:].hex()}'
-    return f' gives {data.hex()}'
-
-
 class Cases(Questions):
     def run(self, label, trace_, table=TWO, keeper=None, policy=POLICY, totals=CLEARED, room=None):
         """Asks one run, and gives what it comes to."""
@@ -38,7 +30,8 @@ class Cases(Questions):
         sums = b''.join(n.to_bytes(8, 'big') for n in totals)
         self.add([0, len(label), 0, 0], self.places(policy, trace_, table, keeper) + [self.place(sums), room], label)
         ran = run(policy, trace_, table, keeper, totals, room)
-        self.text += (f'{label} {ran.said} totals {" ".join(map(str, ran.totals))}{told(ran.outcomes)}'
+        gives = b''.join(map(outcome_bytes, ran.outcomes)).hex()
+        self.text += (f'{label} {ran.said} totals {" ".join(map(str, ran.totals))} gives {gives}'
                       f'{changed("table", table, ran.table)}{changed("keeper", keeper, ran.keeper)}\n')
         return ran
 
@@ -120,6 +113,8 @@ def refusals(cases):
             if not set(fault) & set(second):
                 assert asked(f'{number}.and.{later}', {**second, **fault})[1] == number.split('.')[-1]
     cases.run('refuse.place', trace('1', '0') + packet(key('1'), b'\0\1\0') + packet(key('1'), b'\1\0\0'))
+    # several spare bytes of one packet, whose sum in one byte is zero
+    cases.run('refuse.several', trace('1') + packet(key('1'), b'\x80\x40\x40') + trace('0'))
     cases.run('refuse.257.slots', trace('1'), end_bytes([EMPTY] * 257))
     cases.run('refuse.no.slots', trace('1'), b'')
 

@@ -18,12 +18,32 @@ fn missing() {
 }
 
 // The policy's file is a folder, which counts as empty.
-fn folder() {
+fn folder_policy() {
     case(
-        b"folder\n",
-        b"folder/slots.txt",
-        b"folder/policy.bin",
-        b"folder/trace.bin",
+        b"folder_policy\n",
+        b"folder_policy/slots.txt",
+        b"folder_policy/policy.bin",
+        b"folder_policy/trace.bin",
+    );
+}
+
+// The trace's file is a folder.
+fn folder_trace() {
+    case(
+        b"folder_trace\n",
+        b"folder_trace/slots.txt",
+        b"folder_trace/policy.bin",
+        b"folder_trace/trace.bin",
+    );
+}
+
+// The slots' file is a folder.
+fn folder_slots() {
+    case(
+        b"folder_slots\n",
+        b"folder_slots/slots.txt",
+        b"folder_slots/policy.bin",
+        b"folder_slots/trace.bin",
     );
 }
 
@@ -49,7 +69,9 @@ fn large_trace() {
 
 fn main() {
     missing();
-    folder();
+    folder_policy();
+    folder_trace();
+    folder_slots();
     large_policy();
     large_trace();
 }

@@ -26,8 +26,6 @@ ghost use Prim.Native.Nat.{_<_};
 const HEADER: usize = 44;
 // Where the label's length is.
 const LENGTHS: usize = 1;
-// Outcomes of more bytes are told by their first and their last.
-const MANY_BYTES: usize = 1200;
 
 // A number of 32 bits as one of 64.
 fn wide64(x: u32) -> u64
@@ -59,23 +57,6 @@ fn totals_at(s: &[u8]) -> Totals {
 fn say_totals(t: Totals) {
     let numbers = [t.packets, t.hits, t.misses, t.none, t.evictions];
     say_numbers(b" totals # # # # #", &numbers);
-}
-
-// What the run told: its outcomes, or the first and the last of many.
-fn say_told(told: &[u8]) {
-    if told.len() > MANY_BYTES {
-        say_bytes(b" begins ", part(told, 0, layout::OUTCOME_SIZE));
-        say_bytes(
-            b" ends ",
-            part(
-                told,
-                told.len() - layout::OUTCOME_SIZE,
-                layout::OUTCOME_SIZE,
-            ),
-        );
-    } else {
-        say_bytes(b" gives ", told);
-    }
 }
 
 // Says what a run answers, and gives how many bytes of the output are its outcomes.
@@ -110,7 +91,7 @@ fn run_in(question: &[u8], buffers: &[u8], table: &mut [u8], keeper: &mut [u8], 
     let after = ran.totals;
     let n = say_answer(answer);
     say_totals(after);
-    say_told(part(out, 0, n));
+    say_bytes(b" gives ", part(out, 0, n));
     say_kept(out, n);
 }
 
