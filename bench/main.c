@@ -41,16 +41,27 @@ static void print_row(const struct row *row, const struct measured *m)
     }
 }
 
+/* One pass over all rows. */
+static void measure_rows(struct measured *measured)
+{
+    for (size_t i = 0; i < row_count; i++)
+        measure(&rows[i], &measured[i]);
+}
+
+static void print_rows(const struct measured *measured)
+{
+    printf("%-38s%7s%7s  %-8s%13s%13s%8s%7s   %s\n", "", "rules", "slots", "buffers", "library, ns", "plain C, ns", "ratio", "aim", "checksum");
+    for (size_t i = 0; i < row_count; i++)
+        print_row(&rows[i], &measured[i]);
+}
+
 int main(void)
 {
     static struct measured measured[MOST_ROWS];
 
     for (int pass = 0; pass < PASSES; pass++)
-        for (size_t i = 0; i < row_count; i++)
-            measure(&rows[i], &measured[i]);
-    printf("%-38s%7s%7s  %-8s%13s%13s%8s%7s   %s\n", "", "rules", "slots", "buffers", "library, ns", "plain C, ns", "ratio", "aim", "checksum");
-    for (size_t i = 0; i < row_count; i++)
-        print_row(&rows[i], &measured[i]);
+        measure_rows(measured);
+    print_rows(measured);
     printf("\n%u ratios over their aim (!), %u checksums that differ\n", over, apart);
     return apart != 0;
 }

@@ -173,16 +173,26 @@ static void in_order(struct world *w)
     }
 }
 
+/* Makes the rule exact in the destination, to some address. */
+static void put_destination(struct world *w, uint8_t *rule)
+{
+    for (size_t b = TO; b < TO + 4; b++)
+        put_exact(rule + WG_RULE_VALUE, rule + WG_RULE_MASK, b, random_next(&w->stream));
+}
+
+/* A key for each of the first subnets. */
+static void first_keys(struct world *w)
+{
+    for (size_t k = 0; k < KEYS; k++)
+        subnet_key(w, w->keys[k], k, ALL);
+}
+
 void make_all(struct world *w)
 {
     in_order(w);
-    for (size_t i = 0; i + 1 < w->rules; i++) {
-        uint8_t *rule = w->policy + i * WG_RULE_SIZE;
-        for (size_t b = TO; b < TO + 4; b++)
-            put_exact(rule + WG_RULE_VALUE, rule + WG_RULE_MASK, b, random_next(&w->stream));
-    }
-    for (size_t k = 0; k < KEYS; k++)
-        subnet_key(w, w->keys[k], k, ALL);
+    for (size_t i = 0; i + 1 < w->rules; i++)
+        put_destination(w, w->policy + i * WG_RULE_SIZE);
+    first_keys(w);
 }
 
 void make_all_mixed(struct world *w)

@@ -272,18 +272,27 @@ static struct wg_done ends_report(uint8_t *keeper, size_t keeper_len, const uint
     return r;
 }
 
+/* The open slots' numbers, two bytes each; gives how many they are. */
+static size_t list_open(const uint8_t *keeper, size_t slots, uint8_t *list)
+{
+    size_t listed = 0;
+
+    for (size_t i = 0; i < slots; i++)
+        if (is_open(keeper + i * SLOT))
+            put16(list + 2 * listed++, (unsigned)i);
+    return listed;
+}
+
 static struct wg_count ends_open(const uint8_t *keeper, size_t keeper_len, uint8_t *out, size_t out_len)
 {
     struct wg_done r = said(slots_refusal(keeper_len));
-    size_t count = 0, at = 0;
+    uint8_t list[2 * MOST_SLOTS];
+    size_t count = r.refusal ? 0 : list_open(keeper, keeper_len / SLOT, list);
 
-    for (size_t i = 0; !r.refusal && i < keeper_len / SLOT; i++)
-        count += (size_t)is_open(keeper + i * SLOT);
     r = first_of(r, output_refusal(2 * count, out_len));
     struct wg_count answer = {r.refusal, r.place, r.refusal ? 0 : count};
-    for (size_t i = 0; !r.refusal && i < keeper_len / SLOT; i++)
-        if (is_open(keeper + i * SLOT))
-            put16(out + 2 * at++, (unsigned)i);
+    if (answer.count > 0)
+        memcpy(out, list, 2 * count);
     return answer;
 }
 

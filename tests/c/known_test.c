@@ -86,23 +86,33 @@ static void test_steps(void)
     check(c->open(keeper, sizeof keeper, NULL, 0).refusal == 0, "no slot is open after the run");
 }
 
+static void put_printed_trace(uint8_t *trace)
+{
+    for (int i = 0; i < RUN_LENGTH; i++)
+        small_key(run_keys[i], trace + i * PACKET);
+}
+
+/* Whether the outcome record has the numbers that are printed of packet i. */
+static int as_printed(const uint8_t *o, int i)
+{
+    int same = o[0] == run_outcomes[i][0] && o[1] == 0 && o[10] == 0 && o[11] == 0;
+
+    for (int field = 1; field < 5; field++)
+        same = same && get16(o + 2 * field) == run_outcomes[i][field];
+    return same;
+}
+
 /* The printed run, in one call. */
 static void test_run(void)
 {
     uint8_t trace[RUN_LENGTH * PACKET] = {0}, table[2 * SLOT] = {0}, keeper[2 * SLOT] = {0}, out[RUN_LENGTH * OUTCOME];
     struct wg_totals t = {0, 0, 0, 0, 0};
 
-    for (int i = 0; i < RUN_LENGTH; i++)
-        small_key(run_keys[i], trace + i * PACKET);
+    put_printed_trace(trace);
     struct wg_count a = c->run(policy, sizeof policy, trace, sizeof trace, table, sizeof table, keeper, sizeof keeper, out, sizeof out, &t);
     check(a.refusal == 0 && a.count == RUN_LENGTH, "the run is accepted");
-    for (int i = 0; i < RUN_LENGTH; i++) {
-        const uint8_t *o = out + i * OUTCOME;
-        int same = o[0] == run_outcomes[i][0] && o[1] == 0 && o[10] == 0 && o[11] == 0;
-        for (int field = 1; field < 5; field++)
-            same = same && get16(o + 2 * field) == run_outcomes[i][field];
-        check(same, "packet %d of the run as printed", i);
-    }
+    for (int i = 0; i < RUN_LENGTH; i++)
+        check(as_printed(out + i * OUTCOME, i), "packet %d of the run as printed", i);
     check(t.packets == 6 && t.hits == 2 && t.misses == 4 && t.none == 0 && t.evictions == 2, "the run's totals as printed");
 }
 

@@ -281,6 +281,17 @@ static void begin(struct world *w, const struct plan *plan, unsigned number, uin
     watch_start(&w->watch, w->policy, rules, slots);
 }
 
+/* One life, up to the first report. */
+static void live(struct world *w, unsigned steps)
+{
+    for (unsigned i = 0; i < steps && !w->report.reported; i++) {
+        w->report.step = i;
+        step(w);
+        look(w);
+        w->report.steps_made++;
+    }
+}
+
 struct report link_run(const struct calls *calls, enum wrong way, unsigned checks, const struct plan *plan, uint64_t seed)
 {
     static struct world w;
@@ -293,12 +304,7 @@ struct report link_run(const struct calls *calls, enum wrong way, unsigned check
     for (unsigned world = 0; world < plan->worlds && !w.report.reported; world++) {
         begin(&w, plan, world, seed);
         w.report.world = world;
-        for (unsigned i = 0; i < plan->steps && !w.report.reported; i++) {
-            w.report.step = i;
-            step(&w);
-            look(&w);
-            w.report.steps_made++;
-        }
+        live(&w, plan->steps);
     }
     return w.report;
 }

@@ -11,12 +11,15 @@ static const struct plan plans[] = {
 };
 enum { PLANS = sizeof plans / sizeof plans[0] };
 
-/* Every way to be wrong, and exactly the checks that report it: demand 3 alone allows some. */
-static const struct {
+/* A way to be wrong, and exactly the checks that report it. */
+struct wrong_end {
     enum wrong way;
     const char *name;
     unsigned reported_by;
-} wrong_ends[] = {
+};
+
+/* Every way to be wrong: demand 3 alone allows some. */
+static const struct wrong_end wrong_ends[] = {
     {CACHES_RULE_UNCHANGED, "the best rule is cached unchanged", HALF_ONE | ANSWERS},
     {FIXES_DEPENDENTS_BIT, "a bit is fixed to the dependent's value", HALF_ONE | ANSWERS},
     {OLDER_REPORT_SETTLES, "a report of an older sequence settles", HALF_TWO | ANSWERS},
@@ -31,15 +34,20 @@ static const struct {
     {CACHES_BARE_KEYS, "bare keys are cached", ANSWERS}
 };
 
-static void test_wrong(uint64_t seed)
+static void test_wrong_end(const struct wrong_end *end, uint64_t seed)
 {
     static const struct plan plan = {300, 300, 8, 4, 6, 0};
 
+    for (unsigned by = HALF_ONE; by <= ANSWERS; by *= 2) {
+        struct report r = link_run(&plain_ends, end->way, by, &plan, seed);
+        check(r.reported == (end->reported_by & by), "%s: check %u reports it exactly if it should", end->name, by);
+    }
+}
+
+static void test_wrong(uint64_t seed)
+{
     for (size_t i = 0; i < sizeof wrong_ends / sizeof wrong_ends[0]; i++)
-        for (unsigned by = HALF_ONE; by <= ANSWERS; by *= 2) {
-            struct report r = link_run(&plain_ends, wrong_ends[i].way, by, &plan, seed);
-            check(r.reported == (wrong_ends[i].reported_by & by), "%s: check %u reports it exactly if it should", wrong_ends[i].name, by);
-        }
+        test_wrong_end(&wrong_ends[i], seed);
 }
 
 /* Every event, in words. */
@@ -49,6 +57,16 @@ static const char *const events[EVENTS] = {
     [REPORT_TOO_LATE] = "reports too late", [CALL_REFUSED] = "refused calls", [ENDS_APART] = "steps with the ends apart"
 };
 
+/* Says what happened; everything has to have happened. */
+static void tell_events(int plan, const struct report *r)
+{
+    printf("link, at most %u rules and %u slots: %lu steps;", (unsigned)plans[plan].most_rules, (unsigned)plans[plan].most_slots, r->steps_made);
+    for (int event = 0; event < EVENTS; event++) {
+        printf(" %lu %s%s", r->seen[event], events[event], event + 1 < EVENTS ? "," : "\n");
+        check(r->seen[event] > 0, "plan %d has %s", plan, events[event]);
+    }
+}
+
 void test_link(const struct calls *calls, uint64_t seed)
 {
     unsigned long steps = 0;
@@ -56,11 +74,7 @@ void test_link(const struct calls *calls, uint64_t seed)
     for (int i = 0; i < PLANS; i++) {
         struct report r = link_run(calls, RIGHT, HALF_ONE | HALF_TWO | ANSWERS, &plans[i], seed + 1000000 * (unsigned)i);
         check(r.reported == 0, "plan %d, world %u, step %u: %s", i, r.world, r.step, r.words);
-        printf("link, at most %u rules and %u slots: %lu steps;", (unsigned)plans[i].most_rules, (unsigned)plans[i].most_slots, r.steps_made);
-        for (int event = 0; event < EVENTS; event++) {
-            printf(" %lu %s%s", r.seen[event], events[event], event + 1 < EVENTS ? "," : "\n");
-            check(r.seen[event] > 0, "plan %d has %s", i, events[event]);
-        }
+        tell_events(i, &r);
         steps += r.steps_made;
     }
     check(steps >= 1000000, "at least a million steps");

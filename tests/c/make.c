@@ -3,26 +3,39 @@
 
 #include <string.h>
 
+/* The first position that is not taken, from this one on and round. */
+static unsigned free_position(const uint8_t *taken, unsigned from)
+{
+    unsigned p = from;
+
+    while (taken[p])
+        p = (p + 1) % POSITIONS;
+    return p;
+}
+
 void make_field(struct random *r, struct field *field, unsigned count)
 {
     uint8_t taken[POSITIONS] = {0};
 
     field->count = count;
     for (unsigned i = 0; i < count; i++) {
-        unsigned p = i == 0 ? 0 : i == 1 ? POSITIONS - 1 : (unsigned)random_below(r, POSITIONS);
-        while (taken[p])
-            p = (p + 1) % POSITIONS;
+        unsigned p = free_position(taken, i == 0 ? 0 : i == 1 ? POSITIONS - 1 : (unsigned)random_below(r, POSITIONS));
         taken[p] = 1;
         field->position[i] = p;
     }
+}
+
+static void make_any_key(struct random *r, uint8_t *key)
+{
+    for (unsigned i = 0; i < KEY; i++)
+        key[i] = (uint8_t)random_next(r);
 }
 
 void make_key(struct random *r, const struct field *field, uint8_t *key)
 {
     memset(key, random_one_in(r, 8) ? 0xFF : 0, KEY);
     if (random_one_in(r, 8))
-        for (unsigned i = 0; i < KEY; i++)
-            key[i] = (uint8_t)random_next(r);
+        make_any_key(r, key);
     for (unsigned i = 0; i < field->count; i++)
         set_bit(key, field->position[i], (int)random_below(r, 2));
 }

@@ -15,6 +15,18 @@ struct life {
 
 static uint8_t policy[RULES * RULE], trace[MOST_LENGTH * PACKET];
 
+/* A policy, and a trace of so many packets over the same field. */
+static void make_inputs(struct random *r, size_t packets)
+{
+    struct field field;
+
+    make_field(r, &field, 6);
+    make_policy(r, &field, policy, RULES);
+    memset(trace, 0, sizeof trace);
+    for (size_t i = 0; i < packets; i++)
+        make_key(r, &field, trace + i * PACKET);
+}
+
 /* Runs the packets from `from` up to `to`. */
 static int run_part(const struct calls *calls, struct life *life, size_t from, size_t to)
 {
@@ -51,15 +63,10 @@ void test_runs(const struct calls *calls, uint64_t seed)
 
     for (unsigned i = 0; i < TRACES; i++) {
         struct random r = {seed + i};
-        struct field field;
         struct life whole, parts;
         size_t packets = random_below(&r, MOST_LENGTH + 1), cut = random_below(&r, packets + 1);
 
-        make_field(&r, &field, 6);
-        make_policy(&r, &field, policy, RULES);
-        memset(trace, 0, sizeof trace);
-        for (size_t k = 0; k < packets; k++)
-            make_key(&r, &field, trace + k * PACKET);
+        make_inputs(&r, packets);
         memset(&whole, 0, sizeof whole);
         memset(&parts, 0, sizeof parts);
         same = same && run_part(calls, &whole, 0, packets) && run_part(calls, &parts, 0, cut) && run_part(calls, &parts, cut, packets)

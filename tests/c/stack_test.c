@@ -30,6 +30,18 @@ static void *go(void *given)
     return NULL;
 }
 
+static void make_trace(struct random *r, const struct field *field)
+{
+    for (size_t i = 0; i < MOST_PACKETS; i++)
+        make_key(r, field, before.store[TRACE] + GUARD + i * PACKET);
+}
+
+static void put_sequences(uint32_t sequence)
+{
+    for (size_t i = 0; i < MOST_SLOTS; i++)
+        put32(before.store[KEEPER] + GUARD + i * SLOT, sequence);
+}
+
 /* The largest of everything: 1,024 rules, the last depending on all others, 256 slots, 4,096 packets. */
 static void make_largest(enum call_name call)
 {
@@ -47,10 +59,8 @@ static void make_largest(enum call_name call)
     lent_resize(&before, OUT, MOST_PACKETS * OUTCOME);
     make_policy(&r, &field, policy, MOST_RULES);
     memset(policy + (MOST_RULES - 1) * RULE, 0, RULE);
-    for (size_t i = 0; i < MOST_PACKETS; i++)
-        make_key(&r, &field, before.store[TRACE] + GUARD + i * PACKET);
-    for (size_t i = 0; i < MOST_SLOTS; i++)
-        put32(before.store[KEEPER] + GUARD + i * SLOT, (uint32_t)(call == OPEN));
+    make_trace(&r, &field);
+    put_sequences(call == OPEN);
     make_key(&r, &field, before.store[A_KEY] + GUARD);
     size_t best = best_of(policy, MOST_RULES, before.store[A_KEY] + GUARD);
     before.asked.number = call == COVER ? MOST_RULES - 1 : best;

@@ -107,7 +107,8 @@ static int names_best(const struct watch *w, const struct watched *k)
     return k->best != NOTHING && get16(slot + 36) == k->best && get16(slot + 34) == get16(w->policy + k->best * RULE + 28);
 }
 
-const uint8_t *watch_table(struct watch *w, const uint8_t *table)
+/* Takes over each slot that is not as it was when last looked at. */
+static void take_changes(struct watch *w, const uint8_t *table)
 {
     for (size_t i = 0; i < w->slots; i++)
         if (memcmp(w->table + i * SLOT, table + i * SLOT, SLOT) != 0) {
@@ -118,6 +119,11 @@ const uint8_t *watch_table(struct watch *w, const uint8_t *table)
             slot_changed(w, i);
             put_entry(w, i);
         }
+}
+
+const uint8_t *watch_table(struct watch *w, const uint8_t *table)
+{
+    take_changes(w, table);
     for (size_t i = 0; i < w->count; i++)
         if (w->keys[i].hit != NOTHING && !names_best(w, &w->keys[i]))
             return w->keys[i].key;
