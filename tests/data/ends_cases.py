@@ -7,13 +7,12 @@ parts are what this reading says of the earlier.
 """
 from ends import EMPTY, IS_REPORT, IS_WRITE, LARGEST, MOST_SLOTS, NOTHING, Report, Slot, Write, answer
 from ends import call_lookup, call_miss, call_open, call_report, call_show, call_write, encode, end_bytes, size
-from policies import PRINTED, SMALL, V4, key, row, top
+from policies import POLICY, PRINTED, SMALL, V4, key, row, top
 from questions import Questions
 from rules import policy_bytes, rule_bytes
 
 CALLS = [call_lookup, call_write, call_miss, call_report, call_open, call_show]
 
-POLICY = policy_bytes(SMALL)
 # a rule that begins with a zero byte and whose last spare byte is not zero
 FLAWED = rule_bytes(top('', 1, 1), spare=1)
 # with the small policy's three, one rule more than a policy may have

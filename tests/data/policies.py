@@ -1,5 +1,6 @@
-"""The policies that tests ask about, with keys: the small policy and the papers' examples (V1 to V9)."""
+"""The policies that tests ask about, with keys and traces: the small policy and the papers' examples (V1 to V9)."""
 from rules import BITS, Rule, policy_bytes
+from runs import packet
 
 
 def row(text, one):
@@ -15,6 +16,11 @@ def top(text, priority, action=0):
 def key(text):
     """A key whose first positions are shown and whose others are zero."""
     return row(text, '1').to_bytes(BITS // 8, 'big')
+
+
+def packets(*texts):
+    """A trace of such keys."""
+    return b''.join(packet(key(text)) for text in texts)
 
 
 def fields(src, dst, sport, dport, protocol):
@@ -35,6 +41,7 @@ def tuple_rule(priority, src=None, dst=None, dport=None, protocol=None, action=0
 
 
 SMALL = [top('11**', 30, 7), top('1*1*', 20, 8), top('****', 10, 9)]
+POLICY = policy_bytes(SMALL)
 # the keys of the printed example
 PRINTED = ['1000', '0000', '1010', '1001', '1111', '0100']
 
@@ -83,9 +90,8 @@ def numbered(rules, first=0):
     return policy_bytes([r._replace(action=i + first) for i, r in enumerate(rules)])
 
 
-# the papers' examples as traces: name, slots, policy, keys
-PAPER_TRACES = [
-    ('V2', 2, numbered(V2), [key(text) for text in ('010011', '000111', '011011', '010011', '001101', '111111')]),
-    ('V5', 3, numbered(V5[:6], 1), [key(text) for text in ('101', '001', '010', '011', '100', '110', '111', '000')]),
-    ('V6', 4, numbered(V6), [to_v6(69, 7, 6, 80), to_v6(67, 7, 6, 80), to_v6(100, 7, 17, 80), to_v6(64, 1, 6, 179), to_v6(64, 1, 17, 646),
-                             to_v6(67, 7, 6, 80)])]
+V6_KEYS = [to_v6(69, 7, 6, 80), to_v6(67, 7, 6, 80), to_v6(100, 7, 17, 80), to_v6(64, 1, 6, 179), to_v6(64, 1, 17, 646), to_v6(67, 7, 6, 80)]
+# the papers' examples as traces: name, slots, policy, trace
+PAPER_TRACES = [('V2', 2, numbered(V2), packets('010011', '000111', '011011', '010011', '001101', '111111')),
+                ('V5', 3, numbered(V5[:6], 1), packets('101', '001', '010', '011', '100', '110', '111', '000')),
+                ('V6', 4, numbered(V6), b''.join(map(packet, V6_KEYS)))]

@@ -4,7 +4,7 @@ Two files ask them: policies.bin, in which each policy is a part, and cases.bin,
 question 1, label's length 1, key's length 1, zero 1, then five numbers of four bytes: where the policy begins and how long it is, the rule
 number, the output's length (the other rule's number where the question is whether two overlap), zero; then the label and the key.
 """
-from policies import OVERLAPS, PARTED, SMALL, V2, V3, V4, V4_ONE_FIELD, V5, V6, V7, V8, V9, fields, key, to_v6, top
+from policies import OVERLAPS, PARTED, POLICY, SMALL, V2, V3, V4, V4_ONE_FIELD, V5, V6, V7, V8, V9, fields, key, to_v6, top
 from questions import Questions
 from rules import KEY, RULE, Refused, Rule, call_best, call_check, call_cover, call_isolate, call_record
 from rules import overlap, policy_bytes, read_policy, rule_bytes
@@ -113,7 +113,7 @@ def edges(cases):
 
 
 def refusals(cases):
-    good = policy_bytes(SMALL)
+    good = POLICY
     wide = b'\0' * 12
     spare = FLAWED
     spare_first = rule_bytes(SMALL[1], spare=256)

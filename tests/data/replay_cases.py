@@ -4,22 +4,14 @@ Two files ask the cases: parts.bin, in which each slots.txt, policy.bin and trac
 length 1, zero 3, then six numbers of four bytes: where slots.txt begins and how long it is, and the same of policy.bin and trace.bin; then the
 label.
 """
-from policies import PAPER_TRACES, PRINTED, SMALL, key, top
+from policies import PAPER_TRACES, POLICY, PRINTED, SMALL, packets, top
+from policy_cases import FLAWED
 from program import MOST_POLICY_BYTES, MOST_TRACE_BYTES, printed
 from questions import Questions
 from rules import policy_bytes, rule_bytes
-from runs import packet
 
-POLICY = policy_bytes(SMALL)
-FLAWED = rule_bytes(SMALL[1], spare=1)
 # a rule with a value bit under a wildcard
 STRAY = rule_bytes(SMALL[0]._replace(value=SMALL[0].value | 1))
-
-
-def packets(*texts):
-    return b''.join(packet(key(text)) for text in texts)
-
-
 TRACE = packets(*PRINTED)
 TWO = b'2\n'
 
@@ -82,8 +74,8 @@ def runs(cases):
     every = [f'{i:04b}' for i in range(16)]
     cases.ask('again', b'4\n', many, packets(*(every * 3 + every[::-1] * 2)))
     cases.ask('most', b'8\n', POLICY, packets(*every) * 256)
-    for name, slots, policy, keys in PAPER_TRACES:
-        cases.ask(name, f'{slots}\n'.encode(), policy, b''.join(map(packet, keys)))
+    for name, slots, policy, trace in PAPER_TRACES:
+        cases.ask(name, f'{slots}\n'.encode(), policy, trace)
 
 
 def program(name, files, text):
