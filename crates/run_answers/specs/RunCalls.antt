@@ -23,6 +23,9 @@ pub record RunSeen : Type 0 where
   pub keeper : List ℕ
   pub out : List ℕ
 
+abbrev pub seen : WgCount → TotalsStruct → List ℕ → List ℕ → List ℕ → RunSeen
+seen r t table keeper out = record { numbers = r; totals = asTotals t; table = table; keeper = keeper; out = out }
+
 -- what the run shows, its answer as numbers
 abbrev pub seenOf : Shown → RunSeen
 seenOf s = record { numbers = runNumbers (s .answer); totals = s .totals; table = s .table; keeper = s .keeper; out = s .out }
@@ -30,5 +33,4 @@ seenOf s = record { numbers = runNumbers (s .answer); totals = s .totals; table 
 -- one equation: the call shows what the run shows
 abbrev pub RunCall : (policy trace table keeper out : List ℕ) → TotalsStruct → WgCount → TotalsStruct → (table′ keeper′ out′ : List ℕ) → Type 0
 RunCall policy trace table keeper out t r t′ table′ keeper′ out′ =
-    record { numbers = r; totals = asTotals t′; table = table′; keeper = keeper′; out = out′ }
-    ≡ seenOf (runOf policy trace table keeper out (asTotals t))
+    seen r t′ table′ keeper′ out′ ≡ seenOf (runOf policy trace table keeper out (asTotals t))

@@ -1,6 +1,6 @@
 -- One input admits one answer: each part of a result is told by one equation. Assumes nothing.
 use mathlib.Core.Path.{_≡_, sym, _∙_}
-use Rattle.single.specs.Single.{Is, Single, EquationLaw, EachSingle, EachExportSingle}
+use Rattle.single.specs.Single.{EquationLaw, EachSingle, EachExportSingle}
 
 -- two things that one definition gives are equal
 same {ℓ} : {A : Type ℓ} {x y d : A} → x ≡ d → y ≡ d → x ≡ y
@@ -17,6 +17,13 @@ three p q r i = (p i, q i, r i)
 
 pub each-single : EachSingle
 each-single = record {
+  checks = λ a x y p q. same p q;
+  bests = λ a x y p q. same p q;
+  records = λ a x y p q. same p q;
+  record-answers = λ a x y p q. same p q;
+  isolates = λ a x y p q. same p q;
+  shows = λ a x y p q. same p q;
+  show-answers = λ a x y p q. same p q;
   covers = λ a x y p q. two (same (p .answer) (q .answer)) (same (p .written) (q .written));
   lookups = λ a x y p q. three (same (p .answer) (q .answer)) (same (p .bytes) (q .bytes)) (same (p .told) (q .told));
   writes = λ a x y p q. three (same (p .answer) (q .answer)) (same (p .bytes) (q .bytes)) (same (p .told) (q .told));
@@ -28,6 +35,10 @@ each-single = record {
 
 pub each-export-single : EachExportSingle
 each-export-single = record {
+  checks = λ a x y p q. same p q;
+  bests = λ a x y p q. same p q;
+  records = λ a x y p q. same p q;
+  shows = λ a x y p q. same p q;
   covers = λ a x y p q. two (same (p .numbers) (q .numbers)) (same (p .written) (q .written));
   isolates = λ a x y p q. two (same (p .numbers) (q .numbers)) (same (p .written) (q .written));
   lookups = λ a x y p q. three (same (p .numbers) (q .numbers)) (same (p .bytes) (q .bytes)) (same (p .told) (q .told));
@@ -35,4 +46,5 @@ each-export-single = record {
   misses = λ a x y p q. three (same (p .numbers) (q .numbers)) (same (p .bytes) (q .bytes)) (same (p .given) (q .given));
   reports = λ a x y p q. two (same (p .numbers) (q .numbers)) (same (p .bytes) (q .bytes));
   opens = λ a x y p q. two (same (p .numbers) (q .numbers)) (same (p .written) (q .written));
+  runs = λ policy trace table keeper out t r r′ u u′ ta ke ou ta′ ke′ ou′ p q. same p q;
 }

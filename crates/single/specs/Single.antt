@@ -2,6 +2,16 @@
 use mathlib.Core.Path.{_≡_}
 use mathlib.Core.List.{List}
 use Prim.Native.Nat.{ℕ}
+use Rattle.policy.specs.Answers.{checkAnswer}
+use Rattle.policy.specs.declared.PolicyAnswer.{PolicyAnswer}
+use Rattle.rule_records.specs.Answers.{recordAnswer, shownRecord}
+use Rattle.rule_records.specs.declared.RecordAnswer.{RecordAnswer}
+use Rattle.best.specs.Answers.{bestAnswer}
+use Rattle.best.specs.declared.BestAnswer.{BestAnswer}
+use Rattle.isolate.specs.Answers.{isolateAnswer}
+use Rattle.isolate.specs.declared.IsolateAnswer.{IsolateAnswer}
+use Rattle.decision.specs.Answers.{showAnswer, shownPart}
+use Rattle.decision.specs.declared.ShowAnswer.{ShowAnswer}
 use Rattle.cover.specs.Answers.{Covered}
 use Rattle.cover.specs.declared.CoverAnswer.{CoverAnswer}
 use Rattle.table.specs.Lookups.{LookedUp}
@@ -15,17 +25,24 @@ use Rattle.open_slots.specs.declared.OpenAnswer.{OpenAnswer}
 use Rattle.carrying.specs.declared.MissAnswer.{MissAnswer}
 use Rattle.miss.specs.Answers.{Missed}
 use Rattle.ends.specs.Records.{Totals}
-use Rattle.trace.specs.Runs.{RunIs, shows}
+use Rattle.trace.specs.Runs.{RunIs, shows as gathered}
 use Rattle.trace.specs.declared.Ran.{Ran}
+use Rattle.totals.specs.declared.Totals.{Totals as TotalsStruct}
+use Rattle.answers.specs.declared.structs.WgBestAnswer.{WgBestAnswer}
 use Rattle.answers.specs.declared.structs.WgCount.{WgCount}
 use Rattle.answers.specs.declared.structs.WgDone.{WgDone}
 use Rattle.answers.specs.declared.structs.WgFound.{WgFound}
 use Rattle.answers.specs.declared.structs.WgIsolated.{WgIsolated}
 use Rattle.answers.specs.declared.structs.WgOutcome.{WgOutcome}
+use Rattle.answers.specs.declared.structs.WgPart.{WgPart}
+use Rattle.answers.specs.declared.structs.WgShown.{WgShown}
+use Rattle.policy_answers.specs.Policy.{checkedNumbers, bestNumbers}
+use Rattle.part_answers.specs.Parts.{recordNumbers, shownNumbers}
 use Rattle.wunnagresk.specs.TableCalls.{LookupCall, WriteCall}
 use Rattle.wunnagresk.specs.KeeperCalls.{MissCall, ReportCall, OpenCall}
 use Rattle.wunnagresk.specs.PolicyCalls.{CoverCall}
 use Rattle.isolate_answers.specs.IsolateCalls.{IsolateCall}
+use Rattle.run_answers.specs.RunCalls.{RunCall, seen}
 
 -- a buffer's bytes
 abbrev pub Buffer : Type 0
@@ -39,13 +56,20 @@ Is f a x = x ≡ f a
 abbrev pub Single : {A B : Type 0} → (A → B → Type 0) → Type 0
 Single {A} {B} C = (a : A) (x y : B) → C a x → C a y → x ≡ y
 
--- a contract that is one equation admits one answer: check, best rule, a rule's record and its companion, isolate, the shown part and its
--- companion; wg_check, wg_best, wg_rule, wg_show and wg_run
+-- a contract that is one equation admits one answer
 abbrev pub EquationLaw : Type 1
 EquationLaw = (A B : Type 0) (f : A → B) → Single (Is f)
 
--- the calls that answer and leave buffers: input first, then the answer with the buffers after the call
+-- the calls: input first, then the answer, with the buffers after the call where it leaves any
 pub record EachSingle : Type 0 where
+  pub checks : Single (λ (policy : Buffer) (x : PolicyAnswer). x ≡ checkAnswer policy)
+  pub bests : Single (λ (a : Buffer × Buffer) (x : BestAnswer). x ≡ bestAnswer (a .0) (a .1))
+  -- of a part that is lent: its bytes
+  pub records : Single (λ (a : Buffer × ℕ) (x : Buffer). x ≡ shownRecord (a .0) (a .1))
+  pub record-answers : Single (λ (a : Buffer × ℕ) (x : RecordAnswer). x ≡ recordAnswer (a .0) (a .1))
+  pub isolates : Single (λ (a : Buffer × Buffer × ℕ) (x : IsolateAnswer). x ≡ isolateAnswer (a .0) (a .1) (a .2))
+  pub shows : Single (λ (a : Buffer × Buffer × Buffer) (x : Buffer). x ≡ shownPart (a .0) (a .1) (a .2))
+  pub show-answers : Single (λ (a : Buffer × Buffer × Buffer) (x : ShowAnswer). x ≡ showAnswer (a .0) (a .1) (a .2))
   pub covers : Single (λ (a : Buffer × ℕ × Buffer) (x : CoverAnswer × Buffer). Covered (a .0) (a .1) (a .2) (x .0) (x .1))
   pub lookups : Single (λ (a : Buffer × Buffer × Buffer) (x : LookupAnswer × Buffer × Buffer). LookedUp (a .0) (a .1) (a .2) (x .0) (x .1) (x .2))
   pub writes : Single (λ (a : Buffer × Buffer × Buffer) (x : WriteAnswer × Buffer × Buffer). Received (a .0) (a .1) (a .2) (x .0) (x .1) (x .2))
@@ -53,13 +77,17 @@ pub record EachSingle : Type 0 where
       Missed (a .0) (a .1) (a .2) (a .3) (x .0) (x .1) (x .2))
   pub reports : Single (λ (a : Buffer × Buffer) (x : ReportAnswer × Buffer). Reported (a .0) (a .1) (x .0) (x .1))
   pub opens : Single (λ (a : Buffer × Buffer) (x : OpenAnswer × Buffer). Opened (a .0) (a .1) (x .0) (x .1))
-  -- the answer, the totals and every byte of the three buffers are what `shows` gathers
+  -- the answer, the totals and every byte of the three buffers, which `gathered` puts together
   pub runs : (policy trace table keeper out : Buffer) (t : Totals) (r r′ : Ran) (ta ke ou ta′ ke′ ou′ : Buffer)
       → RunIs policy trace table keeper out t r ta ke ou → RunIs policy trace table keeper out t r′ ta′ ke′ ou′
-      → shows r ta ke ou ≡ shows r′ ta′ ke′ ou′
+      → gathered r ta ke ou ≡ gathered r′ ta′ ke′ ou′
 
--- the exports that leave buffers
+-- the exports
 pub record EachExportSingle : Type 0 where
+  pub checks : Single (λ (policy : Buffer) (x : WgCount). x ≡ checkedNumbers (checkAnswer policy))
+  pub bests : Single (λ (a : Buffer × Buffer) (x : WgBestAnswer). x ≡ bestNumbers (bestAnswer (a .0) (a .1)))
+  pub records : Single (λ (a : Buffer × ℕ) (x : WgPart). x ≡ recordNumbers (recordAnswer (a .0) (a .1)) (a .1))
+  pub shows : Single (λ (a : Buffer × Buffer × Buffer) (x : WgShown). x ≡ shownNumbers (showAnswer (a .0) (a .1) (a .2)))
   pub covers : Single (λ (a : Buffer × ℕ × Buffer) (x : WgCount × Buffer). CoverCall (a .0) (a .1) (a .2) (x .0) (x .1))
   pub isolates : Single (λ (a : Buffer × Buffer × ℕ × Buffer) (x : WgIsolated × Buffer). IsolateCall (a .0) (a .1) (a .2) (a .3) (x .0) (x .1))
   pub lookups : Single (λ (a : Buffer × Buffer × Buffer) (x : WgFound × Buffer × Buffer). LookupCall (a .0) (a .1) (a .2) (x .0) (x .1) (x .2))
@@ -68,3 +96,6 @@ pub record EachExportSingle : Type 0 where
       MissCall (a .0) (a .1) (a .2) (a .3) (x .0) (x .1) (x .2))
   pub reports : Single (λ (a : Buffer × Buffer) (x : WgDone × Buffer). ReportCall (a .0) (a .1) (x .0) (x .1))
   pub opens : Single (λ (a : Buffer × Buffer) (x : WgCount × Buffer). OpenCall (a .0) (a .1) (x .0) (x .1))
+  pub runs : (policy trace table keeper out : Buffer) (t : TotalsStruct) (r r′ : WgCount) (u u′ : TotalsStruct) (ta ke ou ta′ ke′ ou′ : Buffer)
+      → RunCall policy trace table keeper out t r u ta ke ou → RunCall policy trace table keeper out t r′ u′ ta′ ke′ ou′
+      → seen r u ta ke ou ≡ seen r′ u′ ta′ ke′ ou′
