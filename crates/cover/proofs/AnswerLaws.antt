@@ -21,9 +21,9 @@ use Rattle.policy.specs.Answers.{checkAnswer}
 use Rattle.policy.proofs.CheckLaws.{check-refused, check-passed, check-count, passed-few}
 use Rattle.policy.specs.declared.PolicyAnswer.{PolicyAnswer}
 use Rattle.policy.specs.declared.PolicyAnswer.the-variants.{Refused as Bad, Rules}
-use Rattle.numbers.specs.Numbers.{Lists, Under}
+use Rattle.numbers.specs.Numbers.{Lists}
 use Rattle.numbers.specs.Written.{numberBytes}
-use Rattle.numbers.proofs.GatherLaws.{Gathered, gathered-few, gathered-under}
+use Rattle.numbers.proofs.GatherLaws.{Gathered, gathered-few}
 use Rattle.cover.specs.Depends.{dependsOn}
 use Rattle.cover.specs.Answers.{coverList, coverRefusal, Covered}
 use Rattle.cover.specs.declared.CoverAnswer.the-variants.{Refused, Count}
@@ -41,7 +41,7 @@ taken-of {policy} {n} e t =
     let passed = check-passed policy n (sym t ∙ e) in
     record { fine = passed; counted = check-count policy n (sym t ∙ e); few = passed-few policy passed }
 
--- ---- the list is no longer than the policy, and each of its numbers is that of a rule
+-- ---- the list is no longer than the policy
 
 gathered : (policy : List ℕ) (number : ℕ) {items : List ℕ} {count : ℕ} → Lists items count (coverList policy number)
     → Gathered (dependsOn (rules keySize policy) number) (before (rules keySize policy)) (length (rules keySize policy)) items count
@@ -51,10 +51,6 @@ gathered policy number is = record { so-far = is }
 pub cover-few : (policy : List ℕ) (number : ℕ) {items : List ℕ} {count : ℕ}
     → Lists items count (coverList policy number) → count ≤ ruleCount keySize policy
 cover-few policy number is = omega (arith, gathered-few _ _ (gathered policy number is), rule-count keySize policy)
-
-pub cover-under : (policy : List ℕ) (number : ℕ) {items : List ℕ} {count : ℕ}
-    → Lists items count (coverList policy number) → Under (ruleCount keySize policy) items count
-cover-under policy number is = gathered-under _ _ (gathered policy number is) (omega (arith, rule-count keySize policy))
 
 -- ---- each way out
 

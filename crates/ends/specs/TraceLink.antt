@@ -18,11 +18,6 @@ use Rattle.ends.specs.Trace.{Ends, trace}
 abbrev pub endsOf : World → Ends
 endsOf a = record { keeper = a .keeper; table = a .table }
 
--- whatever the two ends hold, the run is one of the sequences of events
-abbrev pub TracePromise : Type 0
-TracePromise = (n : ℕ) (p : Decisions) (keys : List Key) (a : World)
-    → (events : List Event) × (trace n p (endsOf a) keys ≡ endsOf (run n p a events))
-
 -- so ends that grew from cleared ones have grown so after the run too: its events follow those that went before
 abbrev pub GrownByRun : Type 0
 GrownByRun = (n : ℕ) (p : Decisions) (w slots : ℕ) (events : List Event) (e : Ends) (keys : List Key)

@@ -1,12 +1,12 @@
 -- Laws of decimals: a digit at a time, and what they spell. Assumes nothing.
-use mathlib.Core.Path.{_≡_, refl, ap, _∙_}
+use mathlib.Core.Path.{_≡_, ap, _∙_}
 use mathlib.Core.Bool.{and-false}
 use mathlib.Core.List.{List, [], _∷_, _++_, append-assoc, append-nil}
 use Prim.Native.Nat.{ℕ, zero, suc, _+_, _-_, _*_, _/_, _%_, _^_, _<_, _≤_}
 use native.Mathlib.Nat.{pow-suc, add-zero}
 use native.Mathlib.Omega.{arith}
-use borrow.Author.Tests.{ltb-true, ltb-false, leb-true, leb-false, lt-ltb, le-ltb, le-leb, lt-leb}
-use lib.Dec.{leb, ltb}
+use borrow.Author.Tests.{leb-true, leb-false, lt-ltb, le-ltb, le-leb, lt-leb}
+use lib.Dec.{leb}
 use lib.ListN.{length}
 use Rattle.model.proofs.Cases.{by-cases}
 use Rattle.line.specs.Decimal.{digit, decimalIn, numberFrom}
@@ -45,22 +45,6 @@ number-below acc d ds l = rw (lt-leb 48 d l)
 pub number-above : (acc d : ℕ) (ds : List ℕ) → 57 < d → numberFrom acc (d ∷ ds) ≡ 0
 unfolding numberFrom
 number-above acc d ds l = rw (lt-leb d 57 l, and-false)
-
-number-last : (acc n : ℕ) (ds : List ℕ) → acc ≡ n / 10 → numberFrom acc (digit (n % 10) ∷ ds) ≡ numberFrom n ds
-number-last acc n ds e =
-    let f : acc * 10 + (digit (n % 10) - 48) ≡ n = omega arith in
-    number-digit acc (digit (n % 10)) ds (omega arith) (omega arith) ∙ rw f
-
--- reading a number's decimal gives the number
-pub number-decimal : (k n : ℕ) (ds : List ℕ) → n < 10 ^ suc k → numberFrom 0 (decimalIn (suc k) n ++ ds) ≡ numberFrom n ds
-number-decimal zero n ds l =
-    let h : n < 10 = omega arith in
-    rw (decimal-one 0 n h) (number-last 0 n ds (omega arith))
-number-decimal (suc k) n ds l =
-    by-cases (ltb n 10)
-    (λ e. rw (decimal-one (suc k) n (ltb-true n 10 e)) (number-last 0 n ds (omega (arith, ltb-true))))
-    (λ e. rw (decimal-more (suc k) n (ltb-false n 10 e), append-assoc)
-    (number-decimal k (n / 10) (digit (n % 10) ∷ ds) (tenth (suc k) n l) ∙ number-last (n / 10) n ds refl))
 
 -- a number's decimal with a digit after it
 pub decimal-longer : (k n d : ℕ) → 1 ≤ n → 48 ≤ d → d ≤ 57 → decimalIn (suc k) (n * 10 + (d - 48)) ≡ decimalIn k n ++ (d ∷ [])
