@@ -1,8 +1,7 @@
 // Parts of a file of cases, and numbers in it.
 ghost use mathlib.Core.Path.{_≡_};
-ghost use Prim.Native.Nat.{_+_, _<_, _≤_};
-ghost use lib.ListN.{length, getD};
-ghost use Rattle.buffers.specs.Numbers.{be};
+ghost use Prim.Native.Nat.{_+_, _<_};
+ghost use lib.ListN.{getD};
 ghost use Rattle.cases.specs.Cases.{partIn, numberAt, partOf};
 
 // The part of `s` of n bytes that begins at `from`; the empty part where `s` ends before.

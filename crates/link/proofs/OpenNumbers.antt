@@ -5,11 +5,11 @@ use mathlib.Core.List.{List, [], _∷_}
 use mathlib.Core.Option.{Option, none, some}
 use Prim.Native.Nat.{ℕ, _*_, _<_}
 use native.Mathlib.Omega.{arith}
-use lib.ListN.{length, getD}
+use lib.ListN.{length}
 use Rattle.model.specs.Below.{elem}
 use Rattle.model.proofs.BelowLaws.{place-in}
 use Rattle.buffers.specs.Numbers.{be}
-use Rattle.buffers.specs.Parts.{part, splice, spelled}
+use Rattle.buffers.specs.Parts.{part, splice}
 use Rattle.records.specs.Layout.{mostSlots}
 use Rattle.checks.specs.declared.refusal.Refusal.{Refusal}
 use Rattle.numbers.proofs.ByteLaws.{number-at}

@@ -1,15 +1,12 @@
 -- A run from cleared ends: how it is refused, and what its output and totals say. Assumes nothing.
 use mathlib.Core.Path.{_≡_, refl, sym, ap, _∙_}
-use mathlib.Core.Bool.{true}
-use mathlib.Core.List.{List, [], _∷_, map}
-use mathlib.Core.Option.{Option, none, some}
-use Prim.Native.Nat.{ℕ, zero, suc, _*_, _≤_, _<_}
+use mathlib.Core.List.{List, _∷_, map}
+use mathlib.Core.Option.{none, some}
+use Prim.Native.Nat.{ℕ, zero, suc, _*_, _≤_}
 use native.Mathlib.Nat.{le-of-suc-le-suc}
 use native.Mathlib.Omega.{arith}
 use borrow.Author.Tests.{le-leb, eq-eqb}
-use lib.Dec.{leb, eqb}
 use lib.ListN.{length, take, replicate, length-replicate}
-use Rattle.ends.specs.Records.{Totals}
 use Rattle.ends.specs.Totals.{clearedTotals, totalsAfter}
 use Rattle.ternary.specs.Sizes.{keySize}
 use Rattle.buffers.specs.Parts.{spelled}
@@ -17,10 +14,9 @@ use Rattle.records.specs.Layout.{outcomeSize, slotSize, mostSlots, mostPackets}
 use Rattle.records.specs.Traces.{packetCount}
 use Rattle.checks.proofs.RefusalLaws.{or-none}
 use Rattle.checks.specs.declared.refusal.Refusal.{Refusal}
-use Rattle.slots.specs.Refusals.{slotsRefusal, WholeSlots}
+use Rattle.slots.specs.Refusals.{slotsRefusal}
 use Rattle.slots.proofs.FitLaws.{slots-accepted}
 use Rattle.totals.specs.Sums.{asTotals, totalsFit}
-use Rattle.policy.specs.Refusals.{policyRefusal}
 use Rattle.run_refusals.specs.Refusals.{traceRefusal, endsRefusal, runRefusal}
 use Rattle.trace.specs.Runs.{RunIs}
 use Rattle.trace.specs.declared.RunAnswer.{RunAnswer}
@@ -31,7 +27,7 @@ use Rattle.runs.proofs.Accepted.{AcceptedRun, accepted-run, refused-by, read-ba
 use Rattle.replay.specs.Files.{mostTraceBytes}
 use Rattle.lines.specs.Printed.{outcomeLine}
 use Rattle.listing.specs.Listing.{linesIn}
-use Rattle.printed.specs.Text.{clearedEnd, callRefusal, recorded, outcomesFrom, runText, textFor, ranText, packetsOf, RanCleared}
+use Rattle.printed.specs.Text.{clearedEnd, callRefusal, recorded, outcomesFrom, runText, RanCleared}
 
 -- the first m of k zeros
 pub take-zeros : (m k : ℕ) → m ≤ k → take {A = ℕ} m (replicate k 0) ≡ replicate m 0

@@ -1,5 +1,4 @@
 // What the program prints, written into a lent output, from the bytes of its three files.
-use checks::refusal::Refusal;
 use line::LINE_SIZE;
 use line::Line;
 use records::layout;

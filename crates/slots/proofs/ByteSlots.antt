@@ -8,8 +8,8 @@ use lib.ListN.{length, set}
 use Rattle.model.specs.Bits.{Bytes}
 use Rattle.ends.specs.Records.{Slot, entryOf, slotWith}
 use Rattle.ends.specs.Ends.{top, counted, confirmed}
-use Rattle.buffers.specs.Numbers.{be, toBe}
-use Rattle.buffers.specs.Parts.{part, splice, chunk, spelled}
+use Rattle.buffers.specs.Numbers.{toBe}
+use Rattle.buffers.specs.Parts.{splice, chunk, spelled}
 use Rattle.buffers.proofs.PartLaws.{part-length, part-bytes, splice-part}
 use Rattle.buffers.proofs.ByteLaws.{byte-more, byte-none, append-bytes, toBe-bytes, splice-bytes, two-below, four-below}
 use Rattle.records.specs.Layout.{slotSequence, slotHits, slotValue, slotMask, slotAction, slotRule, slotSettled, slotSpare, slotSize}

@@ -1,7 +1,6 @@
 -- `line::with_decimal` meets its contract: what is left of the number's digits stands before those that are stored. Assumes nothing.
 use borrow.Author.Needs.{needs}
 use Prim.Native.Nat.{_≤_}
-use native.Mathlib.Omega.{arith}
 use lib.ListN.{drop}
 use Rattle.line.specs.Decimal.{mostDigits}
 use Rattle.line.specs.Line.{lineSize}

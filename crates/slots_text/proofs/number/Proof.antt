@@ -1,6 +1,6 @@
 -- `slots_text::number` meets its contract: reading on from what is read gives the whole number. Assumes nothing.
 use borrow.Author.Needs.{needs}
-use Prim.Native.Nat.{_-_, _≤_}
+use Prim.Native.Nat.{_-_}
 use native.Mathlib.Omega.{arith}
 use lib.ListN.{length}
 use Rattle.slots_text.proofs.Reading.{Reading, reading-none, reading-small, reading-more, reading-below, reading-above, reading-all}
