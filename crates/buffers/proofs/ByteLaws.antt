@@ -30,7 +30,7 @@ splice-bytes at xs bs h k =
     append-bytes (take at bs ++ xs) (drop (at + length xs) bs) (append-bytes (take at bs) xs (part-bytes at 0 bs k) h)
     (drop-bytes (at + length xs) bs k)
 
-pub set-bytes : (xs : List ℕ) (i v : ℕ) → v < 256 → Bytes xs → Bytes (set xs i v)
+set-bytes : (xs : List ℕ) (i v : ℕ) → v < 256 → Bytes xs → Bytes (set xs i v)
 set-bytes [] i v l h = h
 set-bytes (x ∷ xs) zero v l h = byte-more l (record { byte = λ i. h .byte (suc i) })
 set-bytes (x ∷ xs) (suc i) v l h = byte-more (h .byte 0) (set-bytes xs i v l (record { byte = λ i. h .byte (suc i) }))

@@ -13,7 +13,7 @@ use Rattle.buffers.specs.Parts.{part, splice}
 -- ---- read byte by byte
 
 -- n bytes from `at + k` on, each read by its index: with n and k written out it computes to the list of the reads
-abbrev pub reads : ℕ → ℕ → ℕ → List ℕ → List ℕ
+abbrev reads : ℕ → ℕ → ℕ → List ℕ → List ℕ
 reads zero k at s = []
 reads (suc n) k at s = getD s (at + k) 0 ∷ reads n (suc k) at s
 
@@ -39,7 +39,7 @@ pub part-split : (m n at : ℕ) (s : List ℕ) → part (m + n) at s ≡ part m 
 part-split m n at s = take-add m n (drop at s) ∙ rw (drop-drop m at s)
 
 -- a part of the first k bytes is a part of the whole
-pub part-inner : (n b k : ℕ) (l : List ℕ) → b + n ≤ k → part n b (take k l) ≡ part n b l
+part-inner : (n b k : ℕ) (l : List ℕ) → b + n ≤ k → part n b (take k l) ≡ part n b l
 part-inner n zero k l h = take-take n k l (omega arith)
 part-inner n (suc b) zero l h = absurd (omega arith)
 part-inner n (suc b) (suc k) [] h = refl

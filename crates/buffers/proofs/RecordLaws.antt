@@ -45,11 +45,11 @@ apart : (size i j : ℕ) → i < j → size * i + size ≤ size * j
 apart size i j h = omega (arith, mul-suc size i, mul-le-mul-left size h)
 
 module _ (size i : ℕ) (xs bs : List ℕ) (whole : length xs ≡ size) (fits : size * i + size ≤ length bs) where
-  pub chunk-put : chunk size (splice (size * i) xs bs) i ≡ xs
+  chunk-put : chunk size (splice (size * i) xs bs) i ≡ xs
   chunk-put = part-of-splice (size * i) xs bs (omega arith) size whole
 
   -- another record is as it was
-  pub chunk-kept : (j : ℕ) → j ≢ i → chunk size (splice (size * i) xs bs) j ≡ chunk size bs j
+  chunk-kept : (j : ℕ) → j ≢ i → chunk size (splice (size * i) xs bs) j ≡ chunk size bs j
   chunk-kept j ne =
       order-cases j i
       (λ l. part-before (size * i) xs bs (omega arith) size (size * j) (apart size j i l))

@@ -67,7 +67,7 @@ module _ (policy key table : List ℕ) where
 
   module _ (fine : policyRefusal policy ≡ none) (long : length key ≡ keySize) (fit : slotsFit table ≡ true) where
     -- none of the arguments is refused
-    pub all-fine : showRefusal policy key table ≡ none
+    all-fine : showRefusal policy key table ≡ none
     unfolding showRefusal bestRefusal keyRefusal slotsRefusal
     all-fine = rw (fine, eq-eqb _ _ long, fit)
 
@@ -85,7 +85,7 @@ module _ (policy key table : List ℕ) where
       says-none e = rw (all-fine, missed, e)
 
 -- a slot that takes the key is one of the table, which has few
-pub slot-below : (key table : List ℕ) (i : ℕ) → firstFor positions (slots keySize table) key ≡ some i → i < slotCount keySize table
+slot-below : (key table : List ℕ) (i : ℕ) → firstFor positions (slots keySize table) key ≡ some i → i < slotCount keySize table
 slot-below key table i e = omega (arith, found positions (slots keySize table) key i e .inside, slot-count keySize table)
 
 pub slot-few : (key table : List ℕ) (i : ℕ) → slotsFit table ≡ true → firstFor positions (slots keySize table) key ≡ some i → i < mostSlots

@@ -47,7 +47,7 @@ unfolding numberFrom
 number-above acc d ds l = rw (lt-leb d 57 l, and-false)
 
 -- a number's decimal with a digit after it
-pub decimal-longer : (k n d : ℕ) → 1 ≤ n → 48 ≤ d → d ≤ 57 → decimalIn (suc k) (n * 10 + (d - 48)) ≡ decimalIn k n ++ (d ∷ [])
+decimal-longer : (k n d : ℕ) → 1 ≤ n → 48 ≤ d → d ≤ 57 → decimalIn (suc k) (n * 10 + (d - 48)) ≡ decimalIn k n ++ (d ∷ [])
 decimal-longer k n d l h m =
     let e : (n * 10 + (d - 48)) / 10 ≡ n = omega arith in
     let f : digit ((n * 10 + (d - 48)) % 10) ≡ d = omega arith in

@@ -14,7 +14,7 @@ use Rattle.line.specs.declared.Line.{Line}
 use Rattle.line.proofs.DecimalLaws.{decimal-one, decimal-more, tenth, two-digits}
 
 -- a byte stored just before a part begins it
-pub drop-stored : (bytes : List ℕ) (at x : ℕ) → 1 ≤ at → at ≤ length bytes → drop (at - 1) (set bytes (at - 1) x) ≡ x ∷ drop at bytes
+drop-stored : (bytes : List ℕ) (at x : ℕ) → 1 ≤ at → at ≤ length bytes → drop (at - 1) (set bytes (at - 1) x) ≡ x ∷ drop at bytes
 drop-stored bytes at x l h =
     let e : suc (at - 1) ≡ at = omega arith in
     let i : at - 1 < length (set bytes (at - 1) x) = simp length-set (omega arith) in
@@ -69,7 +69,7 @@ module _ {n from : ℕ} {after bytes : List ℕ} {at rest x : ℕ} (room : mostD
       }
 
   -- the last digit of the rest is the last to be stored
-  pub spelling-done : rest / 10 ≡ 0 → drop (at - 1) (set bytes (at - 1) x) ≡ decimal n ++ after
+  spelling-done : rest / 10 ≡ 0 → drop (at - 1) (set bytes (at - 1) x) ≡ decimal n ++ after
   spelling-done z =
       let m : rest < 10 = omega arith in
       let d : decimalIn (s .left) rest ≡ digit (rest % 10) ∷ [] =

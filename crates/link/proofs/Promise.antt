@@ -148,7 +148,7 @@ module _ (policy : List ℕ) (b : Bytes policy) (fine : policyRefusal policy ≡
     grown-kept =
         kept-among positions p (g .among) (promise keySize mostRules (rules keySize policy) (accepted .accepted) count one few (g .events))
 
-    pub grown-quiet : (ks : List Key) (key : Key) → NoInnerRefusal positions p (trace positions p (endsOf a) ks) key
+    grown-quiet : (ks : List Key) (key : Key) → NoInnerRefusal positions p (trace positions p (endsOf a) ks) key
     grown-quiet ks key =
         inner-promise keySize mostRules (rules keySize policy) (accepted .accepted) count one few (g .events) (endsOf a) (g .among .ends) ks key
 
@@ -160,7 +160,7 @@ module _ (policy : List ℕ) (b : Bytes policy) (fine : policyRefusal policy ≡
         let next = stepped policy b accepted f c (made .0 .0) (made .0 .1) in
         (here s f g, throughout calls (after s c) (next .formed) (next .grown g) (made .1))
 
-    pub from-start : 1 ≤ count → count ≤ mostSlots → (calls : List Call)
+    from-start : 1 ≤ count → count ≤ mostSlots → (calls : List Call)
         → Sequence policy (clearedEnds count) calls → Throughout P (clearedEnds count) calls
     from-start one few calls made =
         throughout calls (clearedEnds count) (start-formed count one few) (rw (start-meant count) (grown-start p count)) made

@@ -18,7 +18,7 @@ use Rattle.listing.proofs.TextLaws.{Spelt, spelt-more, spelt-all}
 
 module _ (records : List ℕ) (i : ℕ) where
   -- the i-th record as it is lent
-  abbrev pub lentRecord : List ℕ
+  abbrev lentRecord : List ℕ
   lentRecord = take (outcomeSize * i + outcomeSize - outcomeSize * i) (drop (outcomeSize * i) records)
 
   lent-chunk : lentRecord ≡ chunk outcomeSize records i

@@ -46,7 +46,7 @@ refused-not bs e =
       flawless = all-clean (ruleFlawAt keySize bs) (ruleCount keySize bs) .0 (flaw-none _ (b .1));
     }
 
-pub not-refused : (bs : List ℕ) → Passes bs → policyRefusal bs ≡ none
+not-refused : (bs : List ℕ) → Passes bs → policyRefusal bs ≡ none
 unfolding policyRefusal
 not-refused bs p =
     rw (

@@ -30,13 +30,13 @@ use Rattle.listing.specs.Listing.{linesIn}
 use Rattle.printed.specs.Text.{clearedEnd, callRefusal, recorded, outcomesFrom, runText, RanCleared}
 
 -- the first m of k zeros
-pub take-zeros : (m k : ℕ) → m ≤ k → take {A = ℕ} m (replicate k 0) ≡ replicate m 0
+take-zeros : (m k : ℕ) → m ≤ k → take {A = ℕ} m (replicate k 0) ≡ replicate m 0
 take-zeros zero k l = refl
 take-zeros (suc m) zero l = absurd (omega arith)
 take-zeros (suc m) (suc k) l = ap (λ (xs : List ℕ). 0 ∷ xs) (take-zeros m k (le-of-suc-le-suc l))
 
 -- room for every outcome
-abbrev pub outputRoom : ℕ
+abbrev outputRoom : ℕ
 outputRoom = outcomeSize * mostPackets
 
 module _ (n : ℕ) (some-there : 1 ≤ n) (few-there : n ≤ mostSlots) where
@@ -53,7 +53,7 @@ module _ (n : ℕ) (some-there : 1 ≤ n) (few-there : n ≤ mostSlots) where
   ends-accepted = rw (end-accepted, eq-eqb (length (clearedEnd n)) (length (clearedEnd n)) refl)
 
   -- neither the ends, nor the totals, nor the output's room can refuse it
-  pub call-refusal : (policy trace : List ℕ) → length trace ≤ mostTraceBytes
+  call-refusal : (policy trace : List ℕ) → length trace ≤ mostTraceBytes
       → runRefusal policy trace (clearedEnd n) (clearedEnd n) outputRoom clearedTotals ≡ callRefusal policy trace
   unfolding runRefusal callRefusal totalsFit
   call-refusal policy trace l =
@@ -89,24 +89,24 @@ module _ (n : ℕ) (some-there : 1 ≤ n) (few-there : n ≤ mostSlots) (policy 
   refused-same : runRefusal policy trace (clearedEnd n) (clearedEnd n) (length out) clearedTotals ≡ callRefusal policy trace
   refused-same = rw room (call-refusal n some-there few-there policy trace short)
 
-  pub cleared-refused : {r : Refusal} → ran .answer ≡ Refused r → callRefusal policy trace ≡ some r
+  cleared-refused : {r : Refusal} → ran .answer ≡ Refused r → callRefusal policy trace ≡ some r
   cleared-refused e = sym refused-same ∙ refused-by clearedTotals call made e
 
   module _ {k : ℕ} (e : ran .answer ≡ Packets k) where
     accepted : AcceptedRun clearedTotals call k
     accepted = accepted-run clearedTotals call made e
 
-    pub cleared-fine : callRefusal policy trace ≡ none
+    cleared-fine : callRefusal policy trace ≡ none
     cleared-fine = sym refused-same ∙ accepted .fine
 
-    pub cleared-few : k ≤ mostPackets
+    cleared-few : k ≤ mostPackets
     cleared-few = omega (arith, accepted .count)
 
-    pub cleared-lines : linesIn k out′ ≡ spelled outcomeLine (map recorded (outcomesFrom n policy trace))
+    cleared-lines : linesIn k out′ ≡ spelled outcomeLine (map recorded (outcomesFrom n policy trace))
     unfolding linesIn
     cleared-lines = ap (spelled outcomeLine) (read-back accepted)
 
-    pub cleared-totals : asTotals (ran .totals) ≡ totalsAfter clearedTotals (outcomesFrom n policy trace)
+    cleared-totals : asTotals (ran .totals) ≡ totalsAfter clearedTotals (outcomesFrom n policy trace)
     cleared-totals = accepted .sums
 
   pub ran-cleared : RanCleared n policy trace ran out′

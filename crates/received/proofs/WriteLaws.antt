@@ -42,7 +42,7 @@ taken-passed none e = refl
 -- ---- which writes are not refused
 
 module _ (m : List ℕ) (count : ℕ) where
-  pub good-write : (writeMessageRefusal m count ≡ none) ↔ GoodWrite m count
+  good-write : (writeMessageRefusal m count ≡ none) ↔ GoodWrite m count
   unfolding writeMessageRefusal
   good-write = (
     λ e.

@@ -91,7 +91,7 @@ module _ {t : Totals} {c : Call} {n : ℕ} (is : AcceptedRun t c n) where
   os = outcomesOf (c .policy) (c .trace) (c .table) (c .keeper)
 
   -- as many as packets
-  pub outcome-count : length os ≡ n
+  outcome-count : length os ≡ n
   outcome-count =
       length-outcomes positions (deciding (c .policy)) (keys keySize (c .trace)) (endsIn (c .table) (c .keeper))
       ∙ packet-count keySize (c .trace)

@@ -36,7 +36,7 @@ encode-bytes w x h =
     (append-bytes _ _ (toBe-bytes 2 (x .action))
     (append-bytes _ _ (toBe-bytes 2 (x .rule)) (byte-more (h .settled-byte) (byte-more (h .spare-byte) byte-none)))))))
 
-pub decoded-byte : (w : ℕ) (c : List ℕ) → Bytes c → length c ≡ slotSize w → ByteSlot w (decodeSlot w c)
+decoded-byte : (w : ℕ) (c : List ℕ) → Bytes c → length c ≡ slotSize w → ByteSlot w (decodeSlot w c)
 unfolding decodeSlot
 decoded-byte w c h l =
     record {

@@ -32,7 +32,7 @@ module _ (bs : List ℕ) where
         few-there = leb-true _ _ (and-right some-there few-there rest);
       }
 
-  pub whole-fit : WholeSlots bs → slotsFit bs ≡ true
+  whole-fit : WholeSlots bs → slotsFit bs ≡ true
   unfolding slotsFit
   whole-fit h =
       let ends : length bs % slotSize keySize ≡ 0 = omega (arith, h .whole) in

@@ -21,7 +21,7 @@ use Rattle.slots_text.specs.Slots.{same, saysSlots, slotsIn}
 
 -- ---- the same bytes
 
-pub same-is : (xs ys : List ℕ) → same xs ys ≡ true → xs ≡ ys
+same-is : (xs ys : List ℕ) → same xs ys ≡ true → xs ≡ ys
 unfolding same
 same-is [] [] h = refl
 same-is [] (y ∷ ys) h = clash refl (sym h)
@@ -31,14 +31,14 @@ same-is (x ∷ xs) (y ∷ ys) h =
     let f : xs ≡ ys = same-is xs ys (and-right (eqb x y) (same xs ys) h) in
     rw (e, f)
 
-pub is-same : (xs : List ℕ) → same xs xs ≡ true
+is-same : (xs : List ℕ) → same xs xs ≡ true
 unfolding same
 is-same [] = refl
 is-same (x ∷ xs) = rw (eq-eqb x x refl) (is-same xs)
 
 -- ---- reading the text byte by byte
 
-unfoldable pub readSlots : List ℕ → ℕ
+unfoldable readSlots : List ℕ → ℕ
 readSlots text =
     let last = length text - 1 in
     let n = numberIn (take last text) in
@@ -47,7 +47,7 @@ readSlots text =
     (cond (eqb (getD text last 0) newline) (cond (eqb (getD text 0 0) 48) 0 (cond (ltb mostSlots n) 0 n)) 0))
 
 -- the text passed every test, and gives r
-pub record Read (text : List ℕ) (r : ℕ) : Type 0 where
+record Read (text : List ℕ) (r : ℕ) : Type 0 where
   pub some : 1 ≤ r
   pub few : r ≤ mostSlots
   pub long : 2 ≤ length text
@@ -133,7 +133,7 @@ read-line text r p =
     let s : same text (lineOf (decimal r ∷ [])) ≡ true = ap (same text) (sym e) ∙ is-same text in
     both (le-leb 1 r (p .some)) s
 
-pub slots-read : (text : List ℕ) → slotsIn text ≡ readSlots text
+slots-read : (text : List ℕ) → slotsIn text ≡ readSlots text
 unfolding slotsIn
 slots-read text = go (firstBelow (saysSlots text) (suc mostSlots)) refl
   where

@@ -31,7 +31,7 @@ use Rattle.steps.specs.Steps.{RunFits, Stepped, toldBy, endsAfter, RanOv
 -- ---- a step
 
 -- the key of a record is 13 bytes
-pub key-long : (bs : List ℕ) (i : ℕ) → i < packetCount keySize bs → length (keyIn keySize bs i) ≡ keySize
+key-long : (bs : List ℕ) (i : ℕ) → i < packetCount keySize bs → length (keyIn keySize bs i) ≡ keySize
 unfolding decodeTrace
 key-long bs i l =
     let whole = part-length (traceSize keySize) (traceSize keySize * i) bs (omega arith) in
@@ -64,7 +64,7 @@ module _ (n : ℕ) (p : Decisions) (key : Key) (e : Ends) where
   one-told = refl
 
 -- nothing was run
-pub ran-none : (policy table keeper out : List ℕ) (t : Totals) → RanOver policy [] table keeper out t table keeper out t
+ran-none : (policy table keeper out : List ℕ) (t : Totals) → RanOver policy [] table keeper out t table keeper out t
 unfolding trace outcomes spelled splice
 ran-none policy table keeper out t = record { ends = refl; told = refl; sums = sym (totals-none t) }
 
