@@ -26,7 +26,7 @@ GrownByRun = (n : ℕ) (p : Decisions) (w slots : ℕ) (events : List Event) (e 
 
 -- and all that is promised of the two ends is kept after it
 abbrev pub KeptByRun : Type 0
-KeptByRun = (w most : ℕ) (pol : List Rule) → Accepted w most pol → (slots : ℕ) → 1 ≤ slots → slots ≤ 256
+KeptByRun = (w most : ℕ) (pol : List Rule) → Accepted w most pol → (slots : ℕ) → 1 ≤ slots
     → (events : List Event) (e : Ends) (keys : List Key) → e ≡ endsOf (run (w * 8) (byPolicy (w * 8) pol) (start w slots) events)
     → (a : World) × (trace (w * 8) (byPolicy (w * 8) pol) e keys ≡ endsOf a) × Kept (w * 8) (byPolicy (w * 8) pol) a
 
@@ -38,7 +38,7 @@ pub record NoInnerRefusal (n : ℕ) (p : Decisions) (e : Ends) (key : Key) : Typ
       → reportRefusal (missKeeper (e .keeper) (onMiss n p (e .keeper) key)) (writeReport (e .table) x) ≡ none
 
 abbrev pub InnerPromise : Type 0
-InnerPromise = (w most : ℕ) (pol : List Rule) → Accepted w most pol → (slots : ℕ) → 1 ≤ slots → slots ≤ 256
+InnerPromise = (w most : ℕ) (pol : List Rule) → Accepted w most pol → (slots : ℕ) → 1 ≤ slots
     → (events : List Event) (e : Ends) → e ≡ endsOf (run (w * 8) (byPolicy (w * 8) pol) (start w slots) events)
     → (keys : List Key) (key : Key) → NoInnerRefusal (w * 8) (byPolicy (w * 8) pol) (trace (w * 8) (byPolicy (w * 8) pol) e keys) key
 

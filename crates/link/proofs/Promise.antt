@@ -143,14 +143,14 @@ module _ (policy : List ℕ) (b : Bytes policy) (fine : policyRefusal policy ≡
   accepted = accepted-bytes policy .0 fine
 
   -- what is promised in the model, of a world that has grown from cleared ends
-  module _ (count : ℕ) (one : 1 ≤ count) (few : count ≤ mostSlots) (a : World) (g : Grown p count a) where
-    pub grown-kept : Kept positions p a
+  module _ (count : ℕ) (one : 1 ≤ count) (a : World) (g : Grown p count a) where
+    grown-kept : Kept positions p a
     grown-kept =
-        kept-among positions p (g .among) (promise keySize mostRules (rules keySize policy) (accepted .accepted) count one few (g .events))
+        kept-among positions p (g .among) (promise keySize mostRules (rules keySize policy) (accepted .accepted) count one (g .events))
 
     grown-quiet : (ks : List Key) (key : Key) → NoInnerRefusal positions p (trace positions p (endsOf a) ks) key
     grown-quiet ks key =
-        inner-promise keySize mostRules (rules keySize policy) (accepted .accepted) count one few (g .events) (endsOf a) (g .among .ends) ks key
+        inner-promise keySize mostRules (rules keySize policy) (accepted .accepted) count one (g .events) (endsOf a) (g .among .ends) ks key
 
   -- what holds of every formed state that has grown so holds at every point
   module _ (P : State → Type 0) (count : ℕ) (here : (s : State) → Formed count s → Grown p count (meaning s) → P s) where
@@ -168,13 +168,13 @@ module _ (policy : List ℕ) (b : Bytes policy) (fine : policyRefusal policy ≡
 pub link-promise : LinkPromise
 link-promise policy b fine count one few calls made =
     from-start policy b fine (KeptBytes policy count) count
-    (λ s f g. kept-bytes policy fine f (grown-kept policy b fine count one few (meaning s) g)) one few calls made
+    (λ s f g. kept-bytes policy fine f (grown-kept policy b fine count one (meaning s) g)) one few calls made
 
 pub run-promise : RunPromise
 unfolding meaning
 run-promise policy b fine count one few calls made =
     from-start policy b fine (QuietRuns policy) count
-    (λ s f g. record { quiet = λ trace n l. grown-quiet policy b fine count one few (meaning s) g (take n (keys keySize trace)) _ })
+    (λ s f g. record { quiet = λ trace n l. grown-quiet policy b fine count one (meaning s) g (take n (keys keySize trace)) _ })
     one few calls made
 
 pub any-call-promise : AnyCallPromise
