@@ -9,14 +9,11 @@ ghost use Rattle.slots.specs.Slots.{slotCount};
 ghost use Rattle.slots.specs.Structs.{asSlot};
 ghost use Rattle.hits.specs.Hits.{Counted};
 
-// A slot's hits stay here once there.
-const MOST_HITS: u32 = 4294967295;
-
-// The slot with one hit more.
+// The slot with one hit more; hits at the top stay there.
 fn counted(x: Slot) -> Slot
     ensures { λ r. ⌜ asSlot r ≡ oneMore (asSlot x) ⌝ }
 {
-    if x.hits == MOST_HITS {
+    if x.hits == layout::TOP {
         return x;
     }
     let value = x.value;

@@ -3,6 +3,7 @@ use answers::structs::WgIsolated;
 use checks::refusal;
 use checks::refusal::Refusal;
 use records::layout;
+use records::layout::PATTERN_SIZE;
 ghost use mathlib.Core.Path.{_≡_};
 ghost use mathlib.Core.List.{_++_};
 ghost use Prim.Native.Nat.{_≤_};
@@ -11,9 +12,6 @@ ghost use Rattle.ternary.specs.Sizes.{positions};
 ghost use Rattle.buffers.specs.Parts.{splice};
 ghost use Rattle.isolate_answers.specs.Isolate.{patternSize, refusedCounts, isolatedCounts};
 ghost use Rattle.isolate_answers.specs.IsolateCalls.{IsolateCall};
-
-// A pattern's two rows.
-const PATTERN_SIZE: usize = layout::KEY_SIZE + layout::KEY_SIZE;
 
 // Of a refusal.
 fn refused_numbers(refusal: Refusal) -> WgIsolated

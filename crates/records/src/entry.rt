@@ -10,7 +10,7 @@ ghost use Rattle.buffers.specs.Parts.{splice};
 ghost use Rattle.records.specs.Layout.{slotSize};
 
 // What follows the rows.
-pub fn tail_bytes(first: u16, second: u16, third: u8, last: u8) -> [u8; 6]
+pub fn tail_bytes(first: u16, second: u16, third: u8, last: u8) -> [u8; layout::TAIL_SIZE]
     ensures { λ r. ⌜ r ≡ toBe 2 first ++ (toBe 2 second ++ (third ∷ last ∷ [])) ⌝ }
 {
     [
@@ -37,7 +37,7 @@ pub fn entry_bytes(
     head: [u8; layout::SLOT_VALUE],
     value: [u8; layout::KEY_SIZE],
     mask: [u8; layout::KEY_SIZE],
-    tail: [u8; 6],
+    tail: [u8; layout::TAIL_SIZE],
 ) -> [u8; layout::SLOT_SIZE]
     ensures { λ r. ⌜ r ≡ head ++ (value ++ (mask ++ tail)) ⌝ }
 {

@@ -1,7 +1,10 @@
-// Where each field of a record begins, each record's size, and the limits. No other file names an offset, a size or a limit.
+// Every offset and size of a record, the limits on their count, and the largest number of four bytes: no other file names one.
 
 // A key, and a row of a pattern.
 pub const KEY_SIZE: usize = ternary::KEY_SIZE;
+
+// A pattern: its two rows.
+pub const PATTERN_SIZE: usize = KEY_SIZE + KEY_SIZE;
 
 // Rule: value, mask, priority 2, action 2, zero 2.
 pub const RULE_VALUE: usize = 0;
@@ -41,6 +44,9 @@ pub const SLOT_SETTLED: usize = SLOT_RULE + 2;
 pub const SLOT_SPARE: usize = SLOT_SETTLED + 1;
 
 pub const SLOT_SIZE: usize = SLOT_SPARE + 1;
+
+// What follows the rows in a slot, and in a write.
+pub const TAIL_SIZE: usize = SLOT_SIZE - SLOT_ACTION;
 
 // Write: kind 1, zero 1, slot 2, sequence 4, value, mask, action 2, rule number 2, zero 2.
 pub const WRITE_KIND: usize = 0;
@@ -100,3 +106,6 @@ pub const MOST_RULES: usize = 1024;
 pub const MOST_PACKETS: usize = 4096;
 
 pub const MOST_SLOTS: usize = 256;
+
+// The last sequence, and the hits at which a slot's count stays.
+pub const TOP: u32 = 4294967295;

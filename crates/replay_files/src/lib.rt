@@ -7,7 +7,7 @@ ghost use Rattle.printed.specs.Text.{mostText};
 ghost use Rattle.io.specs.Counts.{Counts};
 
 // One byte more than each file may have: a longer file is seen to be longer, and an endless one is read no further.
-const SLOTS_ROOM: usize = 5;
+const SLOTS_ROOM: usize = slots_text::MOST + 1;
 
 const POLICY_ROOM: usize = layout::RULE_SIZE * layout::MOST_RULES + 1;
 

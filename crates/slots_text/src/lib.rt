@@ -9,7 +9,7 @@ ghost use Rattle.slots_text.specs.Slots.{slotsIn};
 // A slots.txt of a number from 1 to 256 and a newline has two to four bytes.
 const FEWEST: usize = 2;
 
-const MOST: usize = 4;
+pub const MOST: usize = 4;
 
 // The first and the last digit in ASCII.
 const ZERO: usize = 48;
