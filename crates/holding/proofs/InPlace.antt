@@ -1,4 +1,4 @@
--- The fields of the i-th slot, where they lie in the buffer. For every width. Assumes nothing.
+-- Whether the i-th slot holds a key, read from its fields where they lie in the buffer. For every width. Assumes nothing.
 use mathlib.Core.Path.{_≡_}
 use mathlib.Core.Bool.{not, _&&_}
 use mathlib.Core.List.{List}

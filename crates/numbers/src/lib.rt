@@ -1,4 +1,4 @@
-// Lists of rule numbers, by value.
+// Lists of numbers of rules or of slots, by value.
 use records::layout;
 ghost use mathlib.Core.Path.{_≡_};
 ghost use Prim.Native.Nat.{_*_, _≤_};
@@ -13,7 +13,7 @@ pub struct Numbers {
     pub count: usize,
 }
 
-// A rule's number as an index.
+// A number of a list as an index.
 pub fn wide(x: u16) -> usize
     ensures { λ r. ⌜ r ≡ x ⌝ }
 {

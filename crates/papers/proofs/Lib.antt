@@ -1,1 +1,2 @@
+-- What is computed of the papers' examples.
 pub mod Examples

@@ -1,1 +1,2 @@
+-- What is computed of the small policy's cases.
 pub mod Cases

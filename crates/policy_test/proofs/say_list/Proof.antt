@@ -1,4 +1,4 @@
--- `policy_test::say_list` is safe and ends: i is at most 2,048. Assumes nothing.
+-- `policy_test::say_list` is safe and ends: i is at most 2,048. Assumes what `libc` says of the C functions called.
 use borrow.Author.Needs.{needs}
 use Prim.Native.Nat.{_≤_, _-_}
 use Rattle.policy_test.proofs.say_list.Statement.{statement}

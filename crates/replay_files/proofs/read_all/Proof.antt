@@ -1,4 +1,5 @@
--- `replay_files::read_all` is safe and ends: at is at most the length, and each read that goes on brings a byte. Assumes nothing.
+-- `replay_files::read_all` is safe and ends: at is at most the length, and each read that goes on brings a byte.
+-- Assumes what `libc` says of the C functions called.
 use borrow.Author.Needs.{needs}
 use mathlib.Core.Path.{_≡_, sym}
 use mathlib.Core.List.{List}

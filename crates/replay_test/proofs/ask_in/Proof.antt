@@ -1,4 +1,4 @@
--- `replay_test::ask_in` is safe: what is printed lies in the output. Assumes nothing.
+-- `replay_test::ask_in` is safe: what is printed lies in the output. Assumes what `libc` says of the C functions called.
 use borrow.Author.Needs.{needs}
 use Rattle.listing.proofs.PutLaws.{counts}
 use Rattle.replay_test.proofs.ask_in.Statement.{statement}

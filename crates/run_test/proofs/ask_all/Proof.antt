@@ -1,4 +1,5 @@
--- `run_test::ask_all` is safe and ends: `at` is at most the length, and each question is longer than none. Assumes nothing.
+-- `run_test::ask_all` is safe and ends: `at` is at most the length, and each question is longer than none.
+-- Assumes what `libc` says of the C functions called.
 use borrow.Author.Needs.{needs}
 use Prim.Native.Nat.{_≤_, _-_}
 use lib.ListN.{length}

@@ -1,4 +1,4 @@
--- `cases::say::say_bytes` is safe: i is at most the length. Assumes nothing.
+-- `cases::say::say_bytes` is safe: i is at most the length. Assumes what `libc` says of the C functions called.
 use borrow.Author.Needs.{needs}
 use Prim.Native.Nat.{_≤_, _-_}
 use lib.ListN.{length}

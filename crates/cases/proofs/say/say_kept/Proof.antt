@@ -1,4 +1,4 @@
--- `cases::say::say_kept` is safe and ends: i grows to the length. Assumes nothing.
+-- `cases::say::say_kept` is safe and ends: i grows to the length. Assumes what `libc` says of the C functions called.
 use borrow.Author.Needs.{needs}
 use Prim.Native.Nat.{_-_}
 use lib.ListN.{length}

@@ -1,4 +1,4 @@
--- `cases::slots::say_slots` is safe and ends: i is at most 258. Assumes nothing.
+-- `cases::slots::say_slots` is safe and ends: i is at most 258. Assumes what `libc` says of the C functions called.
 use borrow.Author.Needs.{needs}
 use Prim.Native.Nat.{_≤_, _-_}
 use Rattle.cases.proofs.slots.say_slots.Statement.{statement}
