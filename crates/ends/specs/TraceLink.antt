@@ -24,11 +24,12 @@ GrownByRun = (n : ℕ) (p : Decisions) (w slots : ℕ) (events : List Event) (e 
     → e ≡ endsOf (run n p (start w slots) events)
     → (more : List Event) × (trace n p e keys ≡ endsOf (run n p (start w slots) (events ++ more)))
 
--- and all that is promised of the two ends is kept after it
+-- and all that is promised is kept after it, of the two ends and of every message that was given before it or in it
 abbrev pub KeptByRun : Type 0
 KeptByRun = (w most : ℕ) (pol : List Rule) → Accepted w most pol → (slots : ℕ) → 1 ≤ slots
     → (events : List Event) (e : Ends) (keys : List Key) → e ≡ endsOf (run (w * 8) (byPolicy (w * 8) pol) (start w slots) events)
-    → (a : World) × (trace (w * 8) (byPolicy (w * 8) pol) e keys ≡ endsOf a) × Kept (w * 8) (byPolicy (w * 8) pol) a
+    → (more : List Event) × (let a = run (w * 8) (byPolicy (w * 8) pol) (start w slots) (events ++ more) in
+    (trace (w * 8) (byPolicy (w * 8) pol) e keys ≡ endsOf a) × Kept (w * 8) (byPolicy (w * 8) pol) a)
 
 -- from such ends neither end refuses within the run: at no packet the report of a hit, nor a miss's write, nor that write's report
 pub record NoInnerRefusal (n : ℕ) (p : Decisions) (e : Ends) (key : Key) : Type 0 where

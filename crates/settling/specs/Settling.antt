@@ -14,7 +14,7 @@ reportBytes keeper x =
     let k = slots keySize keeper in
     cond (isCurrent k x) (putSlot keySize keeper (x .slot) (confirmed (slotAt k (x .slot)) (x .hits))) keeper
 
--- what it is to take a report: so many bytes change, and the slots are as the model has them
+-- what it is to take a report: the keeper's bytes after it, and that their slots are as the model has them
 pub record ReportTaken (keeper : List ℕ) (x : Report) (keeper′ : List ℕ) : Type 0 where
   pub bytes : keeper′ ≡ reportBytes keeper x
   pub meaning : slots keySize keeper′ ≡ afterReport (slots keySize keeper) x

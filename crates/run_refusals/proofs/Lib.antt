@@ -1,2 +1,0 @@
--- What an answer says of the tests.
-pub mod PartLaws
