@@ -37,7 +37,8 @@ use Rattle.verdict.specs.Decisions.{missIn}
 use Rattle.carrying.specs.Carrying.{asStruct}
 use Rattle.carrying.specs.declared.MissAnswer.{MissAnswer}
 use Rattle.carrying.specs.declared.MissAnswer.the-variants.{Outcome}
-use Rattle.miss.specs.Answers.{partsRefusal, roomRefusal, missRefused, missBytes, outWith, Missed}
+use Rattle.parts.specs.Parts.{partsRefusal}
+use Rattle.miss.specs.Answers.{roomRefusal, missRefused, missBytes, outWith, Missed}
 use Rattle.link.specs.Calls.{State, missGave, after}
 use Rattle.link.specs.Calls.{miss as missCall, report as reportCall}
 use Rattle.link.proofs.MessageBytes.{WriteBytes, ReportBytes}
@@ -63,7 +64,7 @@ module _ {count : ℕ} {s : State} (f : Formed count s) where
   keeper-put i x l b =
       record {
         long = length-put-slot keySize (s .keeper) i x l (keeper-room f i l) (b .fits);
-        bytes = put-bytes keySize (s .keeper) i l (keeper-room f i l) (f .keeper-bytes) x b;
+        bytes = put-bytes keySize (s .keeper) i (keeper-room f i l) (f .keeper-bytes) x b;
       }
 
   -- ---- a miss

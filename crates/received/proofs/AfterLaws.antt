@@ -44,7 +44,7 @@ module _ (table : List ℕ) (h : Bytes table) where
         let room : slotSize keySize * i + slotSize keySize ≤ length table = omega (arith, whole .whole) in
         record {
           long = length-put-slot keySize table i x l room (b .fits);
-          bytes = put-bytes keySize table i l room h x b;
+          bytes = put-bytes keySize table i room h x b;
           meaning = slots-put keySize table i x l room (b .fits);
         }
 
@@ -52,7 +52,7 @@ module _ (table : List ℕ) (h : Bytes table) where
     counted-there : (i : ℕ) → i < slotCount keySize table → ByteSlot keySize (counted (slotAt (slots keySize table) i))
     counted-there i l =
         let room : slotSize keySize * i + slotSize keySize ≤ length table = omega (arith, whole .whole) in
-        rw (slot-at keySize table i l) (counted-byte keySize _ (slot-byte keySize table i l room h))
+        rw (slot-at keySize table i l) (counted-byte keySize _ (slot-byte keySize table i room h))
 
   -- ---- after a lookup
 

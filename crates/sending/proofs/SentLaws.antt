@@ -45,7 +45,7 @@ pub report-fits : (table : List ℕ) (i : ℕ) → Bytes table → WholeSlots ta
     → ReportFits (reportFor i (slotAt (slots keySize table) i))
 report-fits table i h whole l =
     let room : slotSize keySize * i + slotSize keySize ≤ length table = omega (arith, whole .whole) in
-    let f = slot-byte keySize table i l room h .fits in
+    let f = slot-byte keySize table i room h .fits in
     rw (slot-at keySize table i l)
     (record { slot-fits = omega (arith, whole .few-there); sequence-fits = f .sequence-fits; hits-fits = f .hits-fits })
 

@@ -1,20 +1,20 @@
--- Slots that bytes can hold: what is decoded from bytes is one, and one that is put into a buffer leaves it a buffer of bytes, which the list of
--- slots then spells. For every width. Assumes nothing.
+-- Slots that bytes can hold: what is decoded from bytes is one, and one that is put into a buffer leaves it a buffer of bytes. For every width.
+-- Assumes nothing.
 use mathlib.Core.Path.{_≡_, refl, sym, ap, _∙_}
 use mathlib.Core.List.{List}
 use Prim.Native.Nat.{ℕ, _+_, _*_, _^_, _≤_, _<_, min, max}
 use native.Mathlib.Omega.{arith}
-use lib.ListN.{length, set}
+use lib.ListN.{length}
 use Rattle.model.specs.Bits.{Bytes}
 use Rattle.ends.specs.Records.{Slot, entryOf, slotWith}
 use Rattle.ends.specs.Ends.{top, counted, confirmed}
 use Rattle.buffers.specs.Numbers.{toBe}
-use Rattle.buffers.specs.Parts.{splice, chunk, spelled}
+use Rattle.buffers.specs.Parts.{splice, chunk}
 use Rattle.buffers.proofs.PartLaws.{part-length, part-bytes, splice-part}
 use Rattle.buffers.proofs.ByteLaws.{byte-more, byte-none, append-bytes, toBe-bytes, splice-bytes, two-below, four-below}
 use Rattle.records.specs.Layout.{slotSequence, slotHits, slotValue, slotMask, slotAction, slotRule, slotSettled, slotSpare, slotSize}
-use Rattle.slots.specs.Slots.{decodeSlot, encodeSlot, SlotFits, slotCount, slotIn, slots, putSlot}
-use Rattle.slots.proofs.SlotLaws.{encode-decode-slot, length-put-slot, slots-put, slots-spell}
+use Rattle.slots.specs.Slots.{decodeSlot, encodeSlot, SlotFits, slotIn, putSlot}
+use Rattle.slots.proofs.SlotLaws.{encode-decode-slot}
 
 -- ---- slots
 
@@ -89,7 +89,7 @@ hits-replaced x hits = refl
 
 -- ---- a slot of a buffer, and one that is put there
 
-module _ (w : ℕ) (bs : List ℕ) (i : ℕ) (below : i < slotCount w bs) (room : slotSize w * i + slotSize w ≤ length bs) (h : Bytes bs) where
+module _ (w : ℕ) (bs : List ℕ) (i : ℕ) (room : slotSize w * i + slotSize w ≤ length bs) (h : Bytes bs) where
   pub slot-byte : ByteSlot w (slotIn w bs i)
   slot-byte =
       decoded-byte w (chunk (slotSize w) bs i)
@@ -111,10 +111,3 @@ module _ (w : ℕ) (bs : List ℕ) (i : ℕ) (below : i < slotCount w bs) (room 
   module _ (x : Slot) (b : ByteSlot w x) where
     pub put-bytes : Bytes (putSlot w bs i x)
     put-bytes = splice-bytes (slotSize w * i) (encodeSlot x) bs (encode-bytes w x b) h
-
-    -- the bytes after it are those of the list with the slot set
-    pub put-spelled : length bs ≡ slotSize w * slotCount w bs → spelled encodeSlot (set (slots w bs) i x) ≡ putSlot w bs i x
-    put-spelled l =
-        let long : length (putSlot w bs i x) ≡ length bs = length-put-slot w bs i x below room (b .fits) in
-        let whole : length (putSlot w bs i x) ≡ slotSize w * slotCount w (putSlot w bs i x) = rw long l in
-        ap (spelled encodeSlot) (sym (slots-put w bs i x below room (b .fits))) ∙ slots-spell w (putSlot w bs i x) whole put-bytes

@@ -31,7 +31,7 @@ pub slots-byte : (bs : List ℕ) → WholeSlots bs → Bytes bs → ByteSlots (s
 slots-byte bs whole h =
     record {
       long = slot-count keySize bs;
-      each = λ i l. rw (slot-at keySize bs i l) (slot-byte keySize bs i l (omega (arith, whole .whole)) h);
+      each = λ i l. rw (slot-at keySize bs i l) (slot-byte keySize bs i (omega (arith, whole .whole)) h);
     }
 
 -- one slot is another; where there is no such slot, none is

@@ -4,6 +4,7 @@ use holding::Holding;
 use messages::write::Write;
 use numbers::wide;
 use outcomes::kinds;
+use records::layout;
 ghost use mathlib.Core.Path.{_≡_};
 ghost use mathlib.Core.Option.{none, some};
 ghost use Prim.Native.Nat.{suc};
@@ -13,9 +14,6 @@ ghost use Rattle.slots.specs.Slots.{slots};
 ghost use Rattle.slots.specs.Refusals.{WholeSlots};
 ghost use Rattle.decisions.specs.Decided.{DecidedAs};
 ghost use Rattle.verdict.specs.Decisions.{Fine, RuleFor, placeMiss, missWith, ruleMiss, missIn};
-
-// The last sequence there is.
-const LAST_SEQUENCE: u32 = 4294967295;
 
 // The decision that the rule goes, isolated for the key, to the slot for a new entry, under that sequence.
 fn place_entry(
@@ -55,7 +53,7 @@ fn fresh_entry(policy: &[u8], key: &[u8], keeper: &[u8], number: u16, action: u1
         (missWith (now (policy .entry)) (now (key .entry)) (now (keeper .entry)) (some number) none) r ⌝ }
 {
     let last = room::largest_sequence(keeper);
-    if last == LAST_SEQUENCE {
+    if last == layout::TOP {
         return decisions::no_write(kinds::USED_UP, action, number);
     }
     place_entry(policy, key, keeper, number, action, last + 1)

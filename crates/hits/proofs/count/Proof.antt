@@ -29,10 +29,10 @@ returns c =
     let e : c .before .before .put-be32 .last .0 ≡ putSlot keySize bs i new =
     c .before .before .put-be32 .ensures
     ∙ ap (λ (y : Slot). splice (slotSize keySize * i + slotHits) (toBe 4 (y .hits)) bs) there
-    ∙ put-hits keySize bs i (n .before .pre) (omega arith) bytes _
+    ∙ put-hits keySize bs i (omega arith) bytes _
     ∙ ap (putSlot keySize bs i) (sym there)
     in
-    let fits : SlotFits keySize new = rw there (counted-byte keySize _ (slot-byte keySize bs i (n .before .pre) (omega arith) bytes) .fits) in
+    let fits : SlotFits keySize new = rw there (counted-byte keySize _ (slot-byte keySize bs i (omega arith) bytes) .fits) in
     let meaning = ap (slots keySize) e ∙ slots-put keySize bs i new (n .before .pre) (omega arith) fits in
     record { slot = there; put = record { bytes = e; meaning = meaning } }
 
