@@ -1,11 +1,13 @@
--- Where no test refuses. Assumes nothing.
+-- Where no test refuses, and what an answer says of the tests. Assumes nothing.
 use mathlib.Core.Path.{_≡_, refl}
 use mathlib.Core.Bool.{Bool, true, false}
 use mathlib.Core.Option.{Option, none, some}
 use Prim.Native.Nat.{ℕ}
 use native.Mathlib.Omega.{arith}
-use Rattle.checks.specs.Refusals.{orElse, need}
+use Rattle.checks.specs.Refusals.{orElse, need, partsOf}
 use Rattle.checks.specs.declared.refusal.Refusal.{Refusal}
+use Rattle.checks.specs.declared.refusal.Parts.{Parts}
+use Rattle.checks.specs.declared.refusal.Parts.the-variants.{Refused, Fine}
 
 -- neither of two
 pub none-first : (o later : Option Refusal) → orElse o later ≡ none → (o ≡ none) × (later ≡ none)
@@ -21,3 +23,12 @@ or-none none = refl
 pub need-none : (b : Bool) (number : ℕ) (later : Option Refusal) → need b number later ≡ none → (b ≡ true) × (later ≡ none)
 need-none true number later e = (refl, e)
 need-none false number later e = let z : _≡_ {A = ℕ} 0 1 = cc in absurd (omega arith)
+
+-- what the answer about parts says
+pub parts-refused : (o : Option Refusal) {r : Refusal} {a : Parts} → a ≡ partsOf o → a ≡ Refused r → o ≡ some r
+parts-refused (some x) e t = cc
+parts-refused none e t = let z : _≡_ {A = ℕ} 0 1 = cc in absurd (omega arith)
+
+pub parts-none : (o : Option Refusal) {a : Parts} → a ≡ partsOf o → a ≡ Fine → o ≡ none
+parts-none (some x) e t = let z : _≡_ {A = ℕ} 0 1 = cc in absurd (omega arith)
+parts-none none e t = refl

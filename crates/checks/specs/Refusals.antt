@@ -3,6 +3,8 @@ use mathlib.Core.Bool.{Bool, true, false}
 use mathlib.Core.Option.{Option, none, some}
 use Prim.Native.Nat.{ℕ}
 use Rattle.checks.specs.declared.refusal.Refusal.{Refusal}
+use Rattle.checks.specs.declared.refusal.Parts.{Parts}
+use Rattle.checks.specs.declared.refusal.Parts.the-variants.{Refused, Fine}
 
 -- the refusal with this number, at this place
 abbrev pub refusal : ℕ → ℕ → Refusal
@@ -22,3 +24,8 @@ need false number later = some (refusal number 0)
 abbrev pub unlessRefused : {A : Type 0} → Option Refusal → A → A → A
 unlessRefused (some r) old new = old
 unlessRefused none old new = new
+
+-- of parts that are lent: the refusal, or that there is none
+abbrev pub partsOf : Option Refusal → Parts
+partsOf (some r) = Refused r
+partsOf none = Fine

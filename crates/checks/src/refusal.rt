@@ -1,4 +1,7 @@
 // Refusals: the number that a refused call carries, and the place.
+ghost use mathlib.Core.Path.{_≡_};
+ghost use mathlib.Core.Option.{some};
+ghost use Rattle.checks.specs.Refusals.{refusal, partsOf};
 
 // `place` is the first record with a flaw where the number is BAD_RECORD, and 0 in every other case.
 pub struct Refusal {
@@ -32,3 +35,16 @@ pub const REPORT_AHEAD: u32 = 11;
 pub const LENGTHS_DIFFER: u32 = 12;
 // Some total above the limit before a run.
 pub const TOTALS_FULL: u32 = 13;
+
+// Of parts that are lent: the first refusal, or that there is none.
+pub enum Parts {
+    Refused(Refusal),
+    Fine,
+}
+
+// The refusal of that number, at place 0.
+pub fn refused(number: u32) -> Parts
+    ensures { λ r. ⌜ r ≡ partsOf (some (refusal number 0)) ⌝ }
+{
+    Parts::Refused(Refusal { number, place: 0 })
+}

@@ -1,12 +1,9 @@
 -- What the answer says of the record that is shown, and what the tests come to. Assumes nothing.
 use mathlib.Core.Path.{_≡_, refl}
-use mathlib.Core.Bool.{true}
 use mathlib.Core.List.{List}
 use mathlib.Core.Option.{Option, none, some}
 use Prim.Native.Nat.{ℕ, _<_}
 use native.Mathlib.Omega.{arith}
-use lib.ListN.{length}
-use borrow.Author.Tests.{eq-eqb}
 use Rattle.model.specs.Policy.{best}
 use Rattle.ends.specs.Ends.{firstFor}
 use Rattle.ends.specs.Show.{Shown, slotShown, ruleShown, nothingShown, shown, ShownFor}
@@ -16,15 +13,12 @@ use Rattle.ternary.specs.Sizes.{keySize, positions}
 use Rattle.records.specs.Layout.{mostSlots}
 use Rattle.records.specs.Rules.{ruleCount, rules}
 use Rattle.checks.specs.declared.refusal.Refusal.{Refusal}
-use Rattle.checks.specs.Keys.{keyRefusal}
 use Rattle.slots.specs.Slots.{slotCount, slots}
-use Rattle.slots.specs.Refusals.{slotsFit, slotsRefusal}
+use Rattle.slots.specs.Refusals.{WholeSlots}
 use Rattle.slots.proofs.SlotLaws.{slot-count}
-use Rattle.slots.proofs.FitLaws.{fit-whole}
-use Rattle.policy.specs.Refusals.{policyRefusal}
-use Rattle.policy.specs.Answers.{bestRefusal}
+use Rattle.parts.specs.Parts.{partsRefusal}
 use Rattle.best.proofs.BestLaws.{best-below}
-use Rattle.decision.specs.Answers.{showRefusal, shownIn, answerOf, showAnswer}
+use Rattle.decision.specs.Answers.{shownIn, answerOf, showAnswer}
 use Rattle.decision.specs.declared.ShowAnswer.the-variants.{NoRule, FromTable, FromPolicy}
 
 -- ---- from the answer to the record
@@ -50,46 +44,41 @@ of-neither none nothingShown e = (refl, refl)
 module _ (policy key table : List ℕ) where
   -- a record that is shown: none of the arguments is refused, and the model shows it
   pub table-shown : (i : ℕ) → showAnswer policy key table ≡ FromTable i
-      → (showRefusal policy key table ≡ none) × (shownIn policy key table ≡ slotShown i)
+      → (partsRefusal policy key table ≡ none) × (shownIn policy key table ≡ slotShown i)
   unfolding showAnswer
-  table-shown i e = of-slot (showRefusal policy key table) (shownIn policy key table) i e
+  table-shown i e = of-slot (partsRefusal policy key table) (shownIn policy key table) i e
 
   pub policy-shown : (r : ℕ) → showAnswer policy key table ≡ FromPolicy r
-      → (showRefusal policy key table ≡ none) × (shownIn policy key table ≡ ruleShown r)
+      → (partsRefusal policy key table ≡ none) × (shownIn policy key table ≡ ruleShown r)
   unfolding showAnswer
-  policy-shown r e = of-rule (showRefusal policy key table) (shownIn policy key table) r e
+  policy-shown r e = of-rule (partsRefusal policy key table) (shownIn policy key table) r e
 
   pub nothing-shown : showAnswer policy key table ≡ NoRule → shownIn policy key table ≡ nothingShown
   unfolding showAnswer
-  nothing-shown e = of-neither (showRefusal policy key table) (shownIn policy key table) e .1
+  nothing-shown e = of-neither (partsRefusal policy key table) (shownIn policy key table) e .1
 
   -- ---- from the tests to the answer
 
-  module _ (fine : policyRefusal policy ≡ none) (long : length key ≡ keySize) (fit : slotsFit table ≡ true) where
-    -- none of the arguments is refused
-    all-fine : showRefusal policy key table ≡ none
-    unfolding showRefusal bestRefusal keyRefusal slotsRefusal
-    all-fine = rw (fine, eq-eqb _ _ long, fit)
-
+  module _ (fine : partsRefusal policy key table ≡ none) where
     pub says-slot : (i : ℕ) → firstFor positions (slots keySize table) key ≡ some i → FromTable i ≡ showAnswer policy key table
     unfolding showAnswer shown
-    says-slot i e = rw (all-fine, e)
+    says-slot i e = rw (fine, e)
 
     module _ (missed : firstFor positions (slots keySize table) key ≡ none) where
       pub says-rule : (r : ℕ) → best positions (rules keySize policy) key ≡ some r → FromPolicy r ≡ showAnswer policy key table
       unfolding showAnswer shown
-      says-rule r e = rw (all-fine, missed, e)
+      says-rule r e = rw (fine, missed, e)
 
       pub says-none : best positions (rules keySize policy) key ≡ none → NoRule ≡ showAnswer policy key table
       unfolding showAnswer shown
-      says-none e = rw (all-fine, missed, e)
+      says-none e = rw (fine, missed, e)
 
 -- a slot that takes the key is one of the table, which has few
 slot-below : (key table : List ℕ) (i : ℕ) → firstFor positions (slots keySize table) key ≡ some i → i < slotCount keySize table
 slot-below key table i e = omega (arith, found positions (slots keySize table) key i e .inside, slot-count keySize table)
 
-pub slot-few : (key table : List ℕ) (i : ℕ) → slotsFit table ≡ true → firstFor positions (slots keySize table) key ≡ some i → i < mostSlots
-slot-few key table i fit e = omega (arith, slot-below key table i e, fit-whole table fit .few-there)
+pub slot-few : (key table : List ℕ) (i : ℕ) → WholeSlots table → firstFor positions (slots keySize table) key ≡ some i → i < mostSlots
+slot-few key table i whole e = omega (arith, slot-below key table i e, whole .few-there)
 
 module _ (policy key table : List ℕ) where
   decides : ShownFor positions (rules keySize policy) (slots keySize table) key

@@ -7,23 +7,17 @@ use Rattle.ternary.specs.Sizes.{keySize, positions}
 use Rattle.buffers.specs.Parts.{chunk}
 use Rattle.records.specs.Layout.{ruleSize, slotSize}
 use Rattle.records.specs.Rules.{rules}
-use Rattle.checks.specs.Refusals.{orElse}
 use Rattle.checks.specs.declared.refusal.Refusal.{Refusal}
 use Rattle.slots.specs.Slots.{slots}
-use Rattle.slots.specs.Refusals.{slotsRefusal}
-use Rattle.policy.specs.Answers.{bestRefusal}
+use Rattle.parts.specs.Parts.{partsRefusal}
 use Rattle.decision.specs.declared.ShowAnswer.{ShowAnswer}
 use Rattle.decision.specs.declared.ShowAnswer.the-variants.{Refused, NoRule, FromTable, FromPolicy}
-
--- policy 1, 2, 3; key 1; table 4
-unfoldable pub showRefusal : List ℕ → List ℕ → List ℕ → Option Refusal
-showRefusal policy key table = orElse (bestRefusal policy key) (slotsRefusal table)
 
 -- the model's record that decides, over the bytes
 abbrev pub shownIn : List ℕ → List ℕ → List ℕ → Shown
 shownIn policy key table = shown positions (rules keySize policy) (slots keySize table) key
 
--- the refusal, or which record is shown
+-- the refusal (policy 1, 2, 3; key 1; table 4), or which record is shown
 abbrev pub answerOf : Option Refusal → Shown → ShowAnswer
 answerOf (some r) x = Refused r
 answerOf none (slotShown i) = FromTable i
@@ -31,7 +25,7 @@ answerOf none (ruleShown r) = FromPolicy r
 answerOf none nothingShown = NoRule
 
 unfoldable pub showAnswer : List ℕ → List ℕ → List ℕ → ShowAnswer
-showAnswer policy key table = answerOf (showRefusal policy key table) (shownIn policy key table)
+showAnswer policy key table = answerOf (partsRefusal policy key table) (shownIn policy key table)
 
 -- the part that an answer names: the slot's bytes of the table, the rule's of the policy, or the empty part
 abbrev pub partOf : List ℕ → List ℕ → ShowAnswer → List ℕ

@@ -11,7 +11,8 @@ use Rattle.ternary.specs.Sizes.{keySize, positions}
 use Rattle.records.specs.Layout.{ruleSize, slotSize}
 use Rattle.records.specs.Rules.{rules}
 use Rattle.slots.specs.Slots.{slots}
-use Rattle.decision.specs.Answers.{showRefusal, showAnswer, shownPart}
+use Rattle.parts.specs.Parts.{partsRefusal}
+use Rattle.decision.specs.Answers.{showAnswer, shownPart}
 use Rattle.decision.specs.declared.ShowAnswer.the-variants.{NoRule, FromTable, FromPolicy}
 
 -- the lowest slot that takes the key, else the best rule, else nothing; and each in no other case
@@ -24,7 +25,7 @@ pub record Decides (policy key table : List ℕ) : Type 0 where
 
 -- for arguments that are not refused
 abbrev pub DecidesLaw : Type 0
-DecidesLaw = (policy key table : List ℕ) → showRefusal policy key table ≡ none → Decides policy key table
+DecidesLaw = (policy key table : List ℕ) → partsRefusal policy key table ≡ none → Decides policy key table
 
 -- the part is a whole slot, a whole rule, or empty, so its length alone says which buffer it is of
 pub record WholePart (policy key table : List ℕ) : Type 0 where

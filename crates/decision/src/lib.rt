@@ -1,5 +1,5 @@
 // Showing the decision: the record that decides for a key, lent back from the buffer that holds it.
-use checks::refusal;
+use checks::refusal::Parts;
 use checks::refusal::Refusal;
 use records::layout;
 ghost use mathlib.Core.Path.{_≡_};
@@ -17,20 +17,8 @@ pub enum ShowAnswer {
 pub fn show_answer(policy: &[u8], key: &[u8], table: &[u8]) -> ShowAnswer
     ensures { λ r. ⌜ r ≡ showAnswer (now (policy .entry)) (now (key .entry)) (now (table .entry)) ⌝ }
 {
-    if let policy::PolicyAnswer::Refused(refusal) = policy::check(policy) {
+    if let Parts::Refused(refusal) = parts::check_parts(policy, key, table) {
         return ShowAnswer::Refused(refusal);
-    }
-    if key.len() != layout::KEY_SIZE {
-        return ShowAnswer::Refused(Refusal {
-            number: refusal::RAGGED,
-            place: 0,
-        });
-    }
-    if !slots::buffer::slots_fit(table) {
-        return ShowAnswer::Refused(Refusal {
-            number: refusal::BAD_SLOTS,
-            place: 0,
-        });
     }
     if let holding::Holding::At(i) = holding::first_holding(table, key) {
         return ShowAnswer::FromTable(i as u16);

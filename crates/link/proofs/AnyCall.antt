@@ -34,7 +34,9 @@ use Rattle.settling.specs.Settling.{reportBytes}
 use Rattle.keeper.specs.Reports.{reportRefused, reportAnswer}
 use Rattle.keeper.proofs.ReportLaws.{accepted-of}
 use Rattle.verdict.specs.Decisions.{missIn}
-use Rattle.miss.specs.Answers.{partsRefusal, missRefused, missBytes}
+use Rattle.parts.specs.Parts.{partsRefusal}
+use Rattle.parts.proofs.PartLaws.{parts-fine}
+use Rattle.miss.specs.Answers.{missRefused, missBytes}
 use Rattle.totals.specs.declared.Totals.{Totals as TotalsStruct}
 use Rattle.sending.specs.Sending.{endsIn}
 use Rattle.run_refusals.specs.Refusals.{runRefusal}
@@ -70,11 +72,10 @@ module _ {count : ℕ} {s : State} (f : Formed count s) where
   miss-meant : (policy key : List ℕ) (room : ℕ) → Bytes policy → (o : Option Refusal) → missRefused policy key (s .keeper) room ≡ o
       → let m = missIn policy key (s .keeper) in
       slots keySize (unlessRefused o (s .keeper) (missBytes (s .keeper) m)) ≡ unlessRefused o k (missKeeper k m)
-  unfolding missRefused partsRefusal bestRefusal
+  unfolding missRefused
   miss-meant policy key room b (some x) e = refl
   miss-meant policy key room b none e =
-      let parts = none-first (partsRefusal policy key (s .keeper)) _ e .0 in
-      let fine = none-first (policyRefusal policy) (keyRefusal key) (none-first (bestRefusal policy key) _ parts .0) .0 in
+      let fine = parts-fine policy key (s .keeper) (none-first (partsRefusal policy key (s .keeper)) _ e .0) .accepted in
       miss-slots (missIn policy key (s .keeper))
       (miss-fits policy b (accepted-bytes policy .0 fine) k (keeper-slots f) (keeper-whole f .some-there) key)
 

@@ -1,96 +1,50 @@
 -- A decision carried out is the miss's answer, and each way out of the calls. Assumes nothing.
-use mathlib.Core.Path.{_≡_, refl, sym, ap, _∙_}
-use mathlib.Core.Bool.{Bool, true, false}
+use mathlib.Core.Path.{_≡_, ap, _∙_}
+use mathlib.Core.Bool.{true, false}
 use mathlib.Core.List.{List}
-use mathlib.Core.Logic.{_≢_}
 use mathlib.Core.Option.{Option, none, some}
 use Prim.Native.Nat.{ℕ}
-use native.Mathlib.Omega.{arith}
-use lib.Dec.{eqb}
 use lib.ListN.{length, set}
-use borrow.Author.Tests.{eqb-true, eq-eqb, ne-eqb}
 use Rattle.ends.specs.Records.{Slot, Write, Outcome, written, entryIn, writeFor, entryAt}
 use Rattle.ends.specs.Ends.{Miss, noRule, again, place, usedUp, missWrite}
-use Rattle.model.specs.Refusals.{ragged, badSlots}
 use Rattle.ternary.specs.Sizes.{keySize}
 use Rattle.buffers.specs.Parts.{splice}
-use Rattle.checks.specs.Refusals.{refusal, unlessRefused}
+use Rattle.checks.specs.Refusals.{unlessRefused, partsOf}
 use Rattle.checks.specs.declared.refusal.Refusal.{Refusal}
-use Rattle.checks.proofs.RefusalLaws.{none-first, need-none}
-use Rattle.checks.specs.Keys.{keyRefusal}
+use Rattle.checks.specs.declared.refusal.Parts.{Parts}
+use Rattle.checks.specs.declared.refusal.Parts.the-variants.{Refused as PartRefused, Fine as PartsFine}
+use Rattle.checks.proofs.RefusalLaws.{parts-refused, parts-none}
 use Rattle.slots.specs.Slots.{slots, putSlot}
-use Rattle.slots.specs.Refusals.{slotsFit, slotsRefusal}
-use Rattle.slots.proofs.FitLaws.{slots-accepted}
 use Rattle.messages.specs.Writes.{encodeWrite}
 use Rattle.messages.specs.Structs.{asWrite}
 use Rattle.outcomes.specs.Outcomes.{asOutcome, givesWrite, placesEntry}
 use Rattle.outcomes.proofs.OutcomeLaws.{quiet-places}
-use Rattle.policy.specs.Refusals.{policyRefusal}
-use Rattle.policy.specs.Answers.{checkAnswer, bestRefusal}
-use Rattle.policy.specs.declared.PolicyAnswer.{PolicyAnswer}
-use Rattle.policy.specs.declared.PolicyAnswer.the-variants.{Refused as BadPolicy, Rules}
-use Rattle.policy.proofs.CheckLaws.{check-refused, check-passed, passed-few}
+use Rattle.policy.proofs.CheckLaws.{passed-few}
+use Rattle.parts.specs.Parts.{partsRefusal}
+use Rattle.parts.proofs.PartLaws.{parts-fine}
 use Rattle.decisions.specs.Decided.{deciding, DecidedAs}
 use Rattle.verdict.specs.Decisions.{Fine}
 use Rattle.carrying.specs.Carrying.{answerOf, CarriedOut}
 use Rattle.carrying.specs.declared.MissAnswer.{MissAnswer}
 use Rattle.carrying.specs.declared.MissAnswer.the-variants.{Refused}
 use Rattle.carrying.proofs.OutcomeLaws.{none-quiet, full-quiet, again-given, entry-given}
-use Rattle.miss.specs.Answers.{partsRefusal, checkedOf, roomRefusal, missRefused, outWith, MissedAs, OnMiss, Missed}
+use Rattle.miss.specs.Answers.{roomRefusal, missRefused, outWith, MissedAs, OnMiss, Missed}
 use Rattle.decisions.specs.declared.Decision.{Decision}
-use Rattle.miss.specs.declared.Parts.{Parts}
-use Rattle.miss.specs.declared.Parts.the-variants.{Refused as PartRefused, Fine as PartsFine}
 
 -- ---- the parts that are lent
 
 module _ (policy key keeper : List ℕ) where
-  pub bad-policy : {a : PolicyAnswer} {r : Refusal} → a ≡ checkAnswer policy → a ≡ BadPolicy r
-      → PartRefused r ≡ checkedOf (partsRefusal policy key keeper)
-  unfolding partsRefusal bestRefusal
-  bad-policy {a} {r} e t = rw (check-refused policy r (sym t ∙ e))
-
-  module _ {a : PolicyAnswer} {n : ℕ} (e : a ≡ checkAnswer policy) (t : a ≡ Rules n) where
-    passed : policyRefusal policy ≡ none
-    passed = check-passed policy n (sym t ∙ e)
-
-    pub bad-key : length key ≢ keySize → PartRefused (refusal ragged 0) ≡ checkedOf (partsRefusal policy key keeper)
-    unfolding partsRefusal bestRefusal keyRefusal
-    bad-key k = rw (passed, ne-eqb (length key) keySize k)
-
-    module _ {b : Bool} (k : length key ≡ keySize) (f : b ≡ slotsFit keeper) where
-      pub bad-keeper : b ≡ false → PartRefused (refusal badSlots 0) ≡ checkedOf (partsRefusal policy key keeper)
-      unfolding partsRefusal bestRefusal keyRefusal slotsRefusal
-      bad-keeper x = rw (passed, eq-eqb (length key) keySize k, sym f ∙ x)
-
-      pub parts-fine : b ≡ true → PartsFine ≡ checkedOf (partsRefusal policy key keeper)
-      unfolding partsRefusal bestRefusal keyRefusal slotsRefusal
-      parts-fine x = rw (passed, eq-eqb (length key) keySize k, sym f ∙ x)
-
-  of-refused : (o : Option Refusal) {r : Refusal} {a : Parts} → a ≡ checkedOf o → a ≡ PartRefused r → o ≡ some r
-  of-refused (some x) e t = cc
-  of-refused none e t = let z : _≡_ {A = ℕ} 0 1 = cc in absurd (omega arith)
-
-  of-fine : (o : Option Refusal) {a : Parts} → a ≡ checkedOf o → a ≡ PartsFine → o ≡ none
-  of-fine (some x) e t = let z : _≡_ {A = ℕ} 0 1 = cc in absurd (omega arith)
-  of-fine none e t = refl
-
-  pub missed-refused : (out : List ℕ) {r : Refusal} {a : Parts} → a ≡ checkedOf (partsRefusal policy key keeper) → a ≡ PartRefused r
+  pub missed-refused : (out : List ℕ) {r : Refusal} {a : Parts} → a ≡ partsOf (partsRefusal policy key keeper) → a ≡ PartRefused r
       → Missed policy key keeper out (Refused r) keeper out
   unfolding missRefused
   missed-refused out e t =
-      let refused = of-refused (partsRefusal policy key keeper) e t in
+      let refused = parts-refused (partsRefusal policy key keeper) e t in
       record { answer = rw refused; bytes = rw refused; meaning = rw refused; given = rw refused }
 
-  fine-key : keyRefusal key ≡ none → length key ≡ keySize
-  unfolding keyRefusal
-  fine-key e = eqb-true (length key) keySize (need-none (eqb (length key) keySize) ragged none e .0)
-
-  pub fine-of : {a : Parts} → a ≡ checkedOf (partsRefusal policy key keeper) → a ≡ PartsFine → Fine policy key keeper
-  unfolding partsRefusal bestRefusal
+  pub fine-of : {a : Parts} → a ≡ partsOf (partsRefusal policy key keeper) → a ≡ PartsFine → Fine policy key keeper
   fine-of e t =
-      let parts = none-first (bestRefusal policy key) (slotsRefusal keeper) (of-fine (partsRefusal policy key keeper) e t) in
-      let first = none-first (policyRefusal policy) (keyRefusal key) (parts .0) in
-      record { few = passed-few policy (first .0); long = fine-key (first .1); whole = slots-accepted keeper .0 (parts .1) }
+      let fine = parts-fine policy key keeper (parts-none (partsRefusal policy key keeper) e t) in
+      record { few = passed-few policy (fine .accepted); long = fine .long; whole = fine .whole }
 
 -- ---- so it is the miss's answer
 
@@ -173,7 +127,7 @@ module _ (policy keeper out : List ℕ) {d : Decision} {r : MissAnswer} {keeper�
       record { answer = answer-quiet g (is .outcome); bytes = bytes-quiet g; meaning = slots-quiet g; given = out-quiet g }
 
 -- a call whose parts are fine is the call without its checks
-pub missed : (policy key keeper out : List ℕ) {a : Parts} {r : MissAnswer} {keeper′ out′ : List ℕ} → a ≡ checkedOf (partsRefusal policy key keeper)
+pub missed : (policy key keeper out : List ℕ) {a : Parts} {r : MissAnswer} {keeper′ out′ : List ℕ} → a ≡ partsOf (partsRefusal policy key keeper)
     → a ≡ PartsFine → OnMiss policy key keeper out r keeper′ out′ → Missed policy key keeper out r keeper′ out′
 unfolding missRefused
-missed policy key keeper out e t is = rw (of-fine policy key keeper (partsRefusal policy key keeper) e t) is
+missed policy key keeper out e t is = rw (parts-none (partsRefusal policy key keeper) e t) is

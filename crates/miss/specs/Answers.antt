@@ -16,25 +16,14 @@ use Rattle.records.specs.Layout.{writeSize}
 use Rattle.checks.specs.Refusals.{orElse, need, unlessRefused}
 use Rattle.checks.specs.declared.refusal.Refusal.{Refusal}
 use Rattle.slots.specs.Slots.{slots, putSlot}
-use Rattle.slots.specs.Refusals.{slotsRefusal}
 use Rattle.messages.specs.Writes.{encodeWrite}
-use Rattle.policy.specs.Answers.{bestRefusal}
+use Rattle.parts.specs.Parts.{partsRefusal}
 use Rattle.decisions.specs.Decided.{deciding}
 use Rattle.verdict.specs.Decisions.{missIn}
 use Rattle.carrying.specs.Carrying.{answerOf}
 use Rattle.carrying.specs.declared.MissAnswer.{MissAnswer}
-use Rattle.miss.specs.declared.Parts.{Parts}
-use Rattle.miss.specs.declared.Parts.the-variants.{Refused as PartRefused, Fine}
 
 -- ---- refusals
-
--- policy 1, 2, 3; key 1; keeper 4
-unfoldable pub partsRefusal : List ℕ → List ℕ → List ℕ → Option Refusal
-partsRefusal policy key keeper = orElse (bestRefusal policy key) (slotsRefusal keeper)
-
-abbrev pub checkedOf : Option Refusal → Parts
-checkedOf (some r) = PartRefused r
-checkedOf none = Fine
 
 -- 5, where a write is given and the output has so much room
 abbrev pub roomRefusal : Option Write → ℕ → Option Refusal

@@ -1,39 +1,8 @@
 // A miss arrives at the keeper: what it comes to, and the write that is given.
 use carrying::MissAnswer;
-use checks::refusal;
-use checks::refusal::Refusal;
-use records::layout;
-ghost use mathlib.Core.Path.{_≡_};
+use checks::refusal::Parts;
 ghost use Rattle.verdict.specs.Decisions.{Fine};
-ghost use Rattle.miss.specs.Answers.{checkedOf, partsRefusal, OnMiss, Missed};
-
-// Whether the parts that are lent are refused.
-enum Parts {
-    Refused(Refusal),
-    Fine,
-}
-
-// Refusals 1, 2 and 3 of the policy, 1 of the key, 4 of the keeper.
-fn check_parts(policy: &[u8], key: &[u8], keeper: &[u8]) -> Parts
-    ensures { λ r. ⌜ r ≡ checkedOf (partsRefusal (now (policy .entry)) (now (key .entry)) (now (keeper .entry))) ⌝ }
-{
-    if let policy::PolicyAnswer::Refused(refusal) = policy::check(policy) {
-        return Parts::Refused(refusal);
-    }
-    if key.len() != layout::KEY_SIZE {
-        return Parts::Refused(Refusal {
-            number: refusal::RAGGED,
-            place: 0,
-        });
-    }
-    if !slots::buffer::slots_fit(keeper) {
-        return Parts::Refused(Refusal {
-            number: refusal::BAD_SLOTS,
-            place: 0,
-        });
-    }
-    Parts::Fine
-}
+ghost use Rattle.miss.specs.Answers.{OnMiss, Missed};
 
 // A miss whose parts are not refused: decided, and carried out. Refusal 5 changes nothing.
 pub fn on_miss(policy: &[u8], key: &[u8], keeper: &mut [u8], out: &mut [u8]) -> MissAnswer
@@ -49,7 +18,7 @@ pub fn miss(policy: &[u8], key: &[u8], keeper: &mut [u8], out: &mut [u8]) -> Mis
     ensures { λ r. ⌜ Missed (now (policy .entry)) (now (key .entry)) (now (keeper .entry)) (now (out .entry)) r
         (now (keeper .exit)) (now (out .exit)) ⌝ }
 {
-    if let Parts::Refused(refusal) = check_parts(policy, key, keeper) {
+    if let Parts::Refused(refusal) = parts::check_parts(policy, key, keeper) {
         return MissAnswer::Refused(refusal);
     }
     on_miss(policy, key, keeper, out)

@@ -16,8 +16,6 @@ use Rattle.flawed.specs.Flawed.{firstFlawed, traceFlawAt}
 use Rattle.slots.specs.Refusals.{slotsRefusal}
 use Rattle.policy.specs.Refusals.{flawRefusal, policyRefusal}
 use Rattle.totals.specs.Sums.{totalsFit}
-use Rattle.run_refusals.specs.declared.Parts.{Parts}
-use Rattle.run_refusals.specs.declared.Parts.the-variants.{Refused, Fine}
 
 -- trace 1, 2, 3
 unfoldable pub traceRefusal : List ℕ → Option Refusal
@@ -37,8 +35,3 @@ runRefusal policy trace table keeper room t =
     (orElse (traceRefusal trace)
     (orElse (endsRefusal table keeper)
     (need (totalsFit t) totalsFull (need (leb (outcomeSize * packetCount keySize trace) room) shortOutput none))))
-
--- the refusal, or that there is none
-abbrev pub partsOf : Option Refusal → Parts
-partsOf (some r) = Refused r
-partsOf none = Fine

@@ -1,26 +1,14 @@
 // How a run is refused.
 use checks::refusal;
+use checks::refusal::Parts;
 use checks::refusal::Refusal;
+use checks::refusal::refused;
 use records::layout;
 use totals::Totals;
 ghost use mathlib.Core.Path.{_≡_};
-ghost use mathlib.Core.Option.{some};
-ghost use Rattle.checks.specs.Refusals.{refusal as refusalAt};
+ghost use Rattle.checks.specs.Refusals.{partsOf};
 ghost use Rattle.totals.specs.Sums.{asTotals};
-ghost use Rattle.run_refusals.specs.Refusals.{traceRefusal, endsRefusal, runRefusal, partsOf};
-
-// The refusal of some part that is lent, or that there is none.
-pub enum Parts {
-    Refused(Refusal),
-    Fine,
-}
-
-// The refusal of that number, at place 0.
-fn refused(number: u32) -> Parts
-    ensures { λ r. ⌜ r ≡ partsOf (some (refusalAt number 0)) ⌝ }
-{
-    Parts::Refused(Refusal { number, place: 0 })
-}
+ghost use Rattle.run_refusals.specs.Refusals.{traceRefusal, endsRefusal, runRefusal};
 
 // Whether a trace is refused: 1, 2 and 3, the last with the place of the first flawed record.
 fn check_trace(trace: &[u8]) -> Parts

@@ -17,7 +17,8 @@ use Rattle.buffers.specs.Parts.{spelled}
 use Rattle.records.specs.Layout.{traceSize, outcomeSize, mostPackets}
 use Rattle.records.specs.Traces.{packetCount, keys}
 use Rattle.checks.specs.declared.refusal.Refusal.{Refusal}
-use Rattle.checks.proofs.RefusalLaws.{none-first, need-none}
+use Rattle.checks.specs.Refusals.{partsOf}
+use Rattle.checks.proofs.RefusalLaws.{none-first, need-none, parts-refused}
 use Rattle.slots.specs.Slots.{encodeSlot, slots}
 use Rattle.slots.specs.Refusals.{slotsRefusal, WholeSlots}
 use Rattle.slots.proofs.SlotLaws.{slots-spell}
@@ -28,11 +29,10 @@ use Rattle.totals.specs.declared.Totals.{Totals as TotalsStruct}
 use Rattle.totals.specs.Sums.{asTotals, mostTotal, totalsFit, AtMost}
 use Rattle.totals.proofs.SumLaws.{fit-most}
 use Rattle.steps.specs.Steps.{RunFits, RanOver}
-use Rattle.run_refusals.specs.Refusals.{traceRefusal, endsRefusal, runRefusal, partsOf}
-use Rattle.run_refusals.proofs.PartLaws.{of-refused}
+use Rattle.run_refusals.specs.Refusals.{traceRefusal, endsRefusal, runRefusal}
 use Rattle.trace.specs.Runs.{Shown, runOf, RunIs}
-use Rattle.run_refusals.specs.declared.Parts.{Parts}
-use Rattle.run_refusals.specs.declared.Parts.the-variants.{Refused as PartRefused}
+use Rattle.checks.specs.declared.refusal.Parts.{Parts}
+use Rattle.checks.specs.declared.refusal.Parts.the-variants.{Refused as PartRefused}
 use Rattle.trace.specs.declared.RunAnswer.the-variants.{Refused, Packets}
 
 -- ---- where no part is refused
@@ -94,7 +94,7 @@ module _ (policy trace table keeper out : List ℕ) (t : TotalsStruct) where
   pub run-refused : {r : Refusal} {a : Parts} → a ≡ partsOf refused → a ≡ PartRefused r
       → RunIs policy trace table keeper out (asTotals t) (record { answer = Refused r; totals = t }) table keeper out
   unfolding runOf
-  run-refused e s = let o = of-refused refused e s in record { whole = rw o; meaning = rw o }
+  run-refused e s = let o = parts-refused refused e s in record { whole = rw o; meaning = rw o }
 
   -- the slots of an end say its bytes
   spells : (end end′ : List ℕ) → length end′ ≡ length end → Bytes end′ → WholeSlots end → spelled encodeSlot (slots keySize end′) ≡ end′

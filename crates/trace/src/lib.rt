@@ -1,7 +1,7 @@
 // A trace run.
+use checks::refusal::Parts;
 use checks::refusal::Refusal;
 use records::layout;
-use run_refusals::Parts;
 use totals::Totals;
 ghost use Rattle.totals.specs.Sums.{asTotals};
 ghost use Rattle.trace.specs.Runs.{RunIs};

@@ -1,0 +1,2 @@
+-- What the tests of the parts say.
+pub mod PartLaws

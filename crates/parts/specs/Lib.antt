@@ -1,0 +1,2 @@
+-- The refusals of a policy, a key and an end that are lent together.
+pub mod Parts
