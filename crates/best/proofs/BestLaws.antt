@@ -4,9 +4,8 @@ use mathlib.Core.List.{List}
 use mathlib.Core.Option.{Option, none, some}
 use Prim.Native.Nat.{ℕ, _<_}
 use native.Mathlib.Omega.{arith}
-use lib.ListN.{length}
-use Rattle.model.specs.Policy.{Rule as PolicyRule, ruleAt, before, ruleMatches, best}
-use Rattle.model.proofs.OrderLaws.{foremost-some}
+use Rattle.model.specs.Policy.{Rule as PolicyRule, ruleAt, best}
+use Rattle.model.proofs.PolicyLaws.{best-inside}
 use Rattle.ternary.specs.Sizes.{keySize, positions}
 use Rattle.records.specs.Rules.{ruleCount, rules}
 use Rattle.records.proofs.RuleLaws.{rule-count}
@@ -39,7 +38,4 @@ module _ (policy key : List ℕ) where
 
   -- the best rule is one of the policy
   pub best-below : (i : ℕ) → best positions (rules keySize policy) key ≡ some i → i < ruleCount keySize policy
-  unfolding best
-  best-below i e =
-      let pol = rules keySize policy in
-      omega (arith, foremost-some (ruleMatches positions pol key) (before pol) (length pol) i e .0, rule-count keySize policy)
+  best-below i e = omega (arith, best-inside (rules keySize policy) positions key i e, rule-count keySize policy)

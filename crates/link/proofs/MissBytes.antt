@@ -15,7 +15,7 @@ use Rattle.model.specs.Isolate.{isolatedAt, isolate}
 use Rattle.ends.specs.Ends.{firstFor, top, largest, roomIn, Miss, noRule, again, place, usedUp, missOf, nextEntry, onMiss}
 use Rattle.model.proofs.Cases.{by-cases}
 use Rattle.model.proofs.BitLaws.{bit-lt, length-with}
-use Rattle.model.proofs.PolicyLaws.{best-iff}
+use Rattle.model.proofs.PolicyLaws.{best-inside}
 use Rattle.ends.proofs.Slots.{found, largest-le, roomIn-lt, live-inside}
 use Rattle.ternary.specs.Sizes.{keySize, positions}
 use Rattle.buffers.proofs.PartLaws.{part-bytes}
@@ -91,7 +91,7 @@ module _ (policy : List ℕ) (h : Bytes policy) (is : AcceptedBytes policy) wher
         → ByteSlot keySize (written (nextEntry (deciding policy) ks key r))
     unfolding isolate isolatedAt
     next-byte r e u =
-        let inside : r < length pol = best-iff pol positions key (some r) .0 e .0 in
+        let inside : r < length pol = best-inside pol positions key r e in
         let l : r < ruleCount keySize policy = omega (arith, rule-count keySize policy) in
         record {
           fits = record {
