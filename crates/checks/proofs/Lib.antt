@@ -1,4 +1,4 @@
--- Laws of flaws: where a stray bit lies, and what a clean record is.
+-- Laws of flaws: where a stray bit lies, and what a clean record is; and of tests that do not refuse.
 pub mod FlawLaws
 pub mod CleanLaws
 pub mod RefusalLaws

@@ -6,7 +6,7 @@ use mathlib.Core.Option.{Option, none, some}
 use mathlib.Core.Logic.{_≢_}
 use Prim.Native.Nat.{ℕ, _≤_, _<_}
 use native.Mathlib.Omega.{arith}
-use lib.Dec.{ltb, eqb}
+use lib.Dec.{ltb}
 use lib.ListN.{length}
 use borrow.Author.Tests.{lt-ltb, le-ltb, ltb-true, eqb-true, eq-eqb, ne-eqb}
 use Rattle.model.specs.Policy.{best}
@@ -16,7 +16,7 @@ use Rattle.ternary.specs.Sizes.{keySize, positions}
 use Rattle.records.specs.Rules.{ruleCount, rules}
 use Rattle.checks.specs.Refusals.{refusal}
 use Rattle.checks.specs.declared.refusal.Refusal.{Refusal}
-use Rattle.checks.proofs.RefusalLaws.{none-first, need-none}
+use Rattle.checks.proofs.RefusalLaws.{none-first, need-none, key-accepted}
 use Rattle.checks.specs.Keys.{keyRefusal}
 use Rattle.policy.specs.Refusals.{policyRefusal}
 use Rattle.best.specs.Best.{bestFound}
@@ -95,16 +95,15 @@ module _ (policy key : List ℕ) (number : ℕ) (s : Said) (e : s ≡ saidOf (is
   isolated-as t = said-isolated-of (isolateRefusal policy key number) (sym t ∙ e)
 
   pub ready : s ≡ Isolated → Ready policy key number
-  unfolding isolateRefusal keyRefusal
+  unfolding isolateRefusal
   ready t =
       let p = none-first (policyRefusal policy) _ (isolated-as t) in
       let k = none-first (keyRefusal key) _ (p .1) in
       let n = need-none (ltb number (ruleCount keySize policy)) noSuchRule _ (k .1) in
       let b = need-none (isBest (best positions (rules keySize policy) key) number) notBest none (n .1) in
-      let long : length key ≡ keySize = eqb-true _ _ (need-none (eqb (length key) keySize) ragged none (k .0) .0) in
       record {
         low = ltb-true _ _ (n .0);
         few = passed-few policy (p .0);
-        long = long;
+        long = key-accepted key (k .0);
         is-best = best-is _ number (b .0);
       }

@@ -5,15 +5,14 @@ use mathlib.Core.List.{List}
 use mathlib.Core.Logic.{_≢_}
 use mathlib.Core.Option.{some, none}
 use Prim.Native.Nat.{ℕ}
-use lib.Dec.{eqb}
 use lib.ListN.{length}
-use borrow.Author.Tests.{eqb-true, eq-eqb, ne-eqb}
+use borrow.Author.Tests.{eq-eqb, ne-eqb}
 use Rattle.model.specs.Refusals.{ragged, badSlots}
 use Rattle.ternary.specs.Sizes.{keySize}
 use Rattle.checks.specs.Keys.{keyRefusal}
 use Rattle.checks.specs.Refusals.{refusal}
 use Rattle.checks.specs.declared.refusal.Refusal.{Refusal}
-use Rattle.checks.proofs.RefusalLaws.{none-first, need-none}
+use Rattle.checks.proofs.RefusalLaws.{none-first, key-accepted}
 use Rattle.slots.specs.Refusals.{slotsFit, slotsRefusal}
 use Rattle.slots.proofs.FitLaws.{slots-accepted}
 use Rattle.policy.specs.Refusals.{policyRefusal}
@@ -46,12 +45,12 @@ module _ (policy key end : List ℕ) where
       none-bad x = rw (passed, eq-eqb (length key) keySize k, sym f ∙ x)
 
   pub parts-fine : partsRefusal policy key end ≡ none → FineParts policy key end
-  unfolding partsRefusal bestRefusal keyRefusal
+  unfolding partsRefusal bestRefusal
   parts-fine e =
       let parts = none-first (bestRefusal policy key) (slotsRefusal end) e in
       let first = none-first (policyRefusal policy) (keyRefusal key) (parts .0) in
       record {
         accepted = first .0;
-        long = eqb-true (length key) keySize (need-none (eqb (length key) keySize) ragged none (first .1) .0);
+        long = key-accepted key (first .1);
         whole = slots-accepted end .0 (parts .1);
       }

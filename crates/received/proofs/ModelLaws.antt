@@ -9,7 +9,7 @@ use Prim.Native.Nat.{ℕ, _≤_}
 use native.Mathlib.Omega.{arith}
 use lib.Dec.{leb, eqb}
 use lib.ListN.{length, getD}
-use borrow.Author.Tests.{leb-false, eqb-true, eqb-false, le-leb, lt-leb, eq-eqb, ne-eqb}
+use borrow.Author.Tests.{leb-false, eqb-false, le-leb, lt-leb, eq-eqb, ne-eqb}
 use Rattle.model.specs.Pattern.{canonical}
 use Rattle.ends.specs.Ends.{firstFor, lookup, afterLookup, refuse, writeRefusal, afterWrite, writeReport}
 use Rattle.model.proofs.Cases.{not-false}
@@ -18,7 +18,7 @@ use Rattle.buffers.specs.Parts.{splice}
 use Rattle.records.specs.Layout.{writeKind, isWrite, writeSize, reportSize}
 use Rattle.checks.specs.Flaws.{Zeros, writeSpares}
 use Rattle.checks.proofs.CleanLaws.{write-clean}
-use Rattle.checks.proofs.RefusalLaws.{none-first, need-none}
+use Rattle.checks.proofs.RefusalLaws.{none-first, key-accepted}
 use Rattle.checks.specs.Keys.{keyRefusal}
 use Rattle.slots.specs.Slots.{slotCount, slots}
 use Rattle.slots.specs.Refusals.{WholeSlots}
@@ -88,9 +88,8 @@ pub good-lookup : (key table : List ℕ) (room : ℕ) → (lookupRefusal key tab
 unfolding lookupRefusal keyRefusal
 good-lookup key table room = (
   λ e.
-      let long = none-first (keyRefusal key) _ e in
       record {
-        long = eqb-true _ _ (need-none (eqb (length key) keySize) _ none (long .0) .0);
+        long = key-accepted key (none-first (keyRefusal key) _ e .0);
         whole = lookup-whole key table room e;
         fits = λ i f. hit-room key table room i e f;
       },
