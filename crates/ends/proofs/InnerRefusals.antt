@@ -1,15 +1,15 @@
 -- Which messages an end can refuse within a run, whatever the two ends hold. Assumes nothing.
-use mathlib.Core.Path.{_≡_, refl, sym, ap}
+use mathlib.Core.Path.{_≡_, refl, ap}
 use mathlib.Core.Bool.{Bool, true, false}
 use mathlib.Core.List.{List}
 use mathlib.Core.Logic.{inl, inr}
 use mathlib.Core.Option.{Option, none, some}
 use Prim.Native.Nat.{ℕ, _≤_, _<_}
 use native.Mathlib.Omega.{arith}
-use lib.Dec.{leb, ltb, eqb}
+use lib.Dec.{ltb}
 use lib.ListN.{length, length-set}
 use lib.Seq.{getD-set-same}
-use borrow.Author.Tests.{lt-leb, ne-eqb, ltb-false, leb-false, eqb-false}
+use borrow.Author.Tests.{lt-leb, ne-eqb, ltb-false}
 use Rattle.model.specs.Pattern.{canonical}
 use Rattle.ends.specs.Records.{Entry, Slot, Write, Report, entryIn, writeFor, written, cleared, slotAt, entryAt}
 use Rattle.ends.specs.Ends.{Key, Decisions, firstFor, Miss, noRule, again, place, usedUp, roomIn, missOf, nextEntry, onMiss, missKeeper}
@@ -17,8 +17,9 @@ use Rattle.ends.specs.Ends.{writeRefusal, isNewer, afterWrite, writeRepo
 use Rattle.model.specs.Refusals.{badRecord, reportAhead}
 use Rattle.ends.specs.Promise.{Sound}
 use Rattle.ends.specs.TraceLink.{NoneBut, InnerRefusalLaw}
-use Rattle.model.proofs.Cases.{by-cases, cond-elim, none-some}
+use Rattle.model.proofs.Cases.{by-cases, cond-elim}
 use Rattle.ends.proofs.Slots.{found, roomIn-lt}
+use Rattle.ends.proofs.Refusals.{write-taken}
 
 -- a report of a slot that is there and not empty
 report-but : (k : List Slot) (r : Report) → r .slot < length k → 0 < r .sequence → NoneBut reportAhead (reportRefusal k r)
@@ -27,17 +28,18 @@ report-but k r inside live =
     rw (lt-leb (length k) (r .slot) inside, ne-eqb (r .sequence) 0 (omega arith))
     (by-cases (ltb (slotAt k (r .slot) .sequence) (r .sequence)) (λ e. rw e (inr refl)) (λ e. rw e (inl refl)))
 
--- a write that is not refused is for a slot that is there, and has a sequence
-taken-is : (n : ℕ) (t : List Slot) (x : Write) → writeRefusal n t x ≡ none → (x .slot < length t) × (0 < x .sequence)
-unfolding writeRefusal
-taken-is n t x h =
-    by-cases (canonical n (x .value) (x .mask))
-    (λ c. by-cases (leb (length t) (x .slot))
-    (λ l. none-some (sym (rw (c, l) at h)))
-    (λ l. by-cases (eqb (x .sequence) 0)
-    (λ s. none-some (sym (rw (c, l, s) at h)))
-    (λ s. (omega (arith, leb-false), omega (arith, eqb-false (x .sequence) 0 s)))))
-    (λ c. none-some (sym (rw c at h)))
+-- a miss that gives a write again found its slot
+again-found : (b f : Option ℕ) (u : Bool) (room : ℕ) (next : ℕ → Entry) (i : ℕ) → missOf b f u room next ≡ again i → f ≡ some i
+again-found none f u room next i q = cc
+again-found (some r) (some j) u room next i q = cc
+again-found (some r) none true room next i q = cc
+again-found (some r) none false room next i q = cc
+
+same-length : (k : List Slot) (m : Miss) → length (missKeeper k m) ≡ length k
+same-length k noRule = refl
+same-length k (again i) = refl
+same-length k (place i e) = length-set k i (written e)
+same-length k (usedUp r) = refl
 
 module _ (n : ℕ) (p : Decisions) (sound : Sound n p) (k t : List Slot) (equal : length k ≡ length t) (one : 1 ≤ length t) (key : Key) where
   new-taken : (b f : Option ℕ) (u : Bool) → p .best key ≡ b
@@ -65,25 +67,13 @@ module _ (n : ℕ) (p : Decisions) (sound : Sound n p) (k t : List Slot) (equal 
       (λ c. rw (c, lt-leb (length t) i (omega (arith, s .inside)), ne-eqb (slotAt k i .sequence) 0 (omega (arith, s .live))) (inl refl))
       (λ c. rw c (inr refl))
 
-  again-found : (b f : Option ℕ) (u : Bool) (i : ℕ) → missOf b f u (roomIn k) (nextEntry p k key) ≡ again i → f ≡ some i
-  again-found none f u i q = cc
-  again-found (some r) (some j) u i q = cc
-  again-found (some r) none true i q = cc
-  again-found (some r) none false i q = cc
-
-  same-length : (m : Miss) → length (missKeeper k m) ≡ length k
-  same-length noRule = refl
-  same-length (again i) = refl
-  same-length (place i e) = length-set k i (written e)
-  same-length (usedUp r) = refl
-
   answer-but : (m : Miss) (x : Write) → writeRefusal n t x ≡ none → NoneBut reportAhead (reportRefusal (missKeeper k m) (writeReport t x))
   unfolding writeReport afterWrite
   answer-but m x taken =
-      let is = taken-is n t x taken in
-      report-but (missKeeper k m) _ (omega (arith, same-length m))
+      let is = write-taken n t x taken in
+      report-but (missKeeper k m) _ (omega (arith, same-length k m))
       (cond-elim (λ s. 0 < slotAt s (x .slot) .sequence) (isNewer t x)
-      (λ e. omega (arith, ap (λ s. s .sequence) (getD-set-same t (x .slot) (written (entryIn x)) (cleared 0) (is .0))))
+      (λ e. omega (arith, ap (λ s. s .sequence) (getD-set-same t (x .slot) (written (entryIn x)) (cleared 0) (is .1))))
       (λ e. omega (arith, ltb-false)))
 
 pub inner-refusals : InnerRefusalLaw
@@ -93,7 +83,7 @@ inner-refusals n p sound e equal one key =
     let t = e .table in
     record {
       new = λ i x q. new-taken n p sound k t equal one key (p .best key) (firstFor n k key) _ refl i x q;
-      resent = λ i q. resent-but n p sound k t equal one key i (again-found n p sound k t equal one key (p .best key) (firstFor n k key) _ i q);
+      resent = λ i q. resent-but n p sound k t equal one key i (again-found (p .best key) (firstFor n k key) _ _ _ i q);
       hit = λ i q. let s = found n t key i q in report-but k _ (omega (arith, s .inside)) (s .live);
       answer = λ x q taken. answer-but n p sound k t equal one key (onMiss n p k key) x taken;
     }

@@ -1,5 +1,6 @@
 -- What follows. In reading order.
 pub mod Slots
+pub mod Refusals
 pub mod Show
 pub mod Protocol
 pub mod Promise

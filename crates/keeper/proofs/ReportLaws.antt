@@ -1,6 +1,6 @@
 -- A report at the keeper: what its tests come to. Assumes nothing.
 use mathlib.Core.Path.{_≡_, refl}
-use mathlib.Core.Bool.{Bool, true, false, not}
+use mathlib.Core.Bool.{false, not}
 use mathlib.Core.List.{List}
 use mathlib.Core.Logic.{_≢_}
 use mathlib.Core.Option.{Option, none, some}
@@ -8,9 +8,10 @@ use Prim.Native.Nat.{ℕ, _≤_, _<_}
 use native.Mathlib.Omega.{arith}
 use lib.Dec.{leb, eqb}
 use lib.ListN.{length, getD}
-use borrow.Author.Tests.{eqb-true, eq-eqb, ne-eqb, leb-false, le-leb, lt-leb, lt-ltb, le-ltb}
+use borrow.Author.Tests.{eqb-true, eq-eqb, ne-eqb, le-leb, lt-leb, lt-ltb, le-ltb}
 use Rattle.ends.specs.Records.{Slot, Report}
-use Rattle.ends.specs.Ends.{refuse, reportRefusal}
+use Rattle.ends.specs.Ends.{reportRefusal}
+use Rattle.ends.proofs.Refusals.{report-there}
 use Rattle.model.specs.Refusals.{ragged, wrongKind, badRecord, noSuchSlot, sequenceZero, reportAhead}
 use Rattle.ternary.specs.Sizes.{keySize}
 use Rattle.records.specs.Layout.{reportKind, reportZero, reportSize, isReport}
@@ -39,6 +40,10 @@ of-refused none e t = let z : _≡_ {A = ℕ} 0 1 = cc in absurd (omega arith)
 pub of-taken : (o : Option Refusal) {a : ReportAnswer} → a ≡ answerOf o → a ≡ Taken → o ≡ none
 of-taken (some x) e t = let z : _≡_ {A = ℕ} 0 1 = cc in absurd (omega arith)
 of-taken none e t = refl
+
+pub not-refused : (o : Option ℕ) → numbered o ≡ none → o ≡ none
+not-refused none e = refl
+not-refused (some n) e = let z : _≡_ {A = ℕ} 0 1 = cc in absurd (omega arith)
 
 -- bytes that are not refused are as many as a report has
 pub bytes-long : (message : List ℕ) → bytesRefusal message ≡ none → length message ≡ reportSize
@@ -87,19 +92,6 @@ module _ (keeper message : List ℕ) where
     pub long : length message ≡ reportSize
     pub inside : decodeReport message .slot < slotCount keySize keeper
 
-  pub not-refused : (o : Option ℕ) → numbered o ≡ none → o ≡ none
-  not-refused none e = refl
-  not-refused (some n) e = let z : _≡_ {A = ℕ} 0 1 = cc in absurd (omega arith)
-
-  passed-first : (b : Bool) (r : ℕ) (later : Option ℕ) → refuse b r later ≡ none → b ≡ false
-  passed-first true r later e = let z : _≡_ {A = ℕ} 0 1 = cc in absurd (omega arith)
-  passed-first false r later e = refl
-
-  slot-inside : (x : Report) → reportRefusal (slots keySize keeper) x ≡ none → x .slot < slotCount keySize keeper
-  unfolding reportRefusal
-  slot-inside x e =
-      omega (arith, slot-count keySize keeper, leb-false (length (slots keySize keeper)) (x .slot) (passed-first _ noSuchSlot _ e))
-
   pub accepted-of : {a : ReportAnswer} → a ≡ reportAnswer keeper message → a ≡ Taken → Accepted
   unfolding reportAnswer reportRefused
   accepted-of e t =
@@ -109,7 +101,7 @@ module _ (keeper message : List ℕ) where
       record {
         fine = fine;
         long = bytes-long message (parts .0);
-        inside = slot-inside (decodeReport message) (not-refused _ (parts .1));
+        inside = omega (arith, slot-count keySize keeper, report-there _ _ (not-refused _ (parts .1)));
       }
 
   pub reported-refused : {a : ReportAnswer} {r : Refusal} → a ≡ reportAnswer keeper message → a ≡ Refused r

@@ -145,7 +145,7 @@ module _ {count : ℕ} {s : State} (f : Formed count s) where
         let h = f .reports-formed m given in
         let at = place-of decodeReport (s .reports) m given in
         let right : reportRefusal k (decodeReport m) ≡ none =
-        not-refused (s .keeper) m _ (sym (report-meaning (s .keeper) m (keeper-whole f) (h .long) (h .kind) (h .zeroed)) ∙ fine)
+        not-refused _ (sym (report-meaning (s .keeper) m (keeper-whole f) (h .long) (h .kind) (h .zeroed)) ∙ fine)
         in
         let taken = accepted-of (s .keeper) m refl (rw fine) in
         let bytes = rw fine at (is .bytes) in

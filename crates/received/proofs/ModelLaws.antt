@@ -1,7 +1,7 @@
 -- The table's calls on bytes, and the model's on slots: a write that is not refused here is not refused there, and the other way round where
 -- its length, kind and spare bytes are right; which lookups are refused; what a call that is not refused does. Assumes nothing.
 use mathlib.Core.Path.{_≡_, refl}
-use mathlib.Core.Bool.{Bool, true, false, not}
+use mathlib.Core.Bool.{false}
 use mathlib.Core.List.{List}
 use mathlib.Core.Option.{Option, none, some}
 use mathlib.Core.Logic.{_↔_}
@@ -9,10 +9,9 @@ use Prim.Native.Nat.{ℕ, _≤_}
 use native.Mathlib.Omega.{arith}
 use lib.Dec.{leb, eqb}
 use lib.ListN.{length, getD}
-use borrow.Author.Tests.{leb-false, eqb-false, le-leb, lt-leb, eq-eqb, ne-eqb}
-use Rattle.model.specs.Pattern.{canonical}
-use Rattle.ends.specs.Ends.{firstFor, lookup, afterLookup, refuse, writeRefusal, afterWrite, writeReport}
-use Rattle.model.proofs.Cases.{not-false}
+use borrow.Author.Tests.{le-leb, lt-leb, eq-eqb, ne-eqb}
+use Rattle.ends.specs.Ends.{firstFor, lookup, afterLookup, writeRefusal, afterWrite, writeReport}
+use Rattle.ends.proofs.Refusals.{write-taken}
 use Rattle.ternary.specs.Sizes.{keySize, positions}
 use Rattle.buffers.specs.Parts.{splice}
 use Rattle.records.specs.Layout.{writeKind, isWrite, writeSize, reportSize}
@@ -35,11 +34,6 @@ use Rattle.received.specs.declared.write.WriteAnswer.the-variants.{Taken
 use Rattle.table.proofs.LookupLaws.{lookup-whole, hit-room}
 use Rattle.received.proofs.WriteLaws.{good-call}
 
--- the model's test does not refuse, and neither do the later ones
-unrefused : (b : Bool) (number : ℕ) (later : Option ℕ) → refuse b number later ≡ none → (b ≡ false) × (later ≡ none)
-unrefused true number later e = let z : _≡_ {A = ℕ} 0 1 = cc in absurd (omega arith)
-unrefused false number later e = (refl, e)
-
 module _ (table m : List ℕ) where
   -- what is not refused as bytes is not refused by the model
   pub good-there : GoodWrite m (slotCount keySize table) → writeRefusal positions (slots keySize table) (decodeWrite keySize m) ≡ none
@@ -55,19 +49,15 @@ module _ (table m : List ℕ) where
   -- and the other way round, where length, kind and spare bytes are right
   pub good-here : length m ≡ writeSize keySize → getD m writeKind 0 ≡ isWrite → Zeros (writeSpares keySize) m
       → writeRefusal positions (slots keySize table) (decodeWrite keySize m) ≡ none → GoodWrite m (slotCount keySize table)
-  unfolding writeRefusal decodeWrite
+  unfolding decodeWrite
   good-here l k z e =
-      let w = decodeWrite keySize m in
-      let clean = unrefused (not (canonical positions (w .value) (w .mask))) _ _ e in
-      let there = unrefused (leb (length (slots keySize table)) (w .slot)) _ _ (clean .1) in
-      let live = unrefused (eqb (w .sequence) 0) _ none (there .1) in
-      let nonzero = eqb-false (w .sequence) 0 (live .0) in
+      let taken = write-taken positions (slots keySize table) (decodeWrite keySize m) e in
       record {
         long = l;
         kind = k;
-        clean = write-clean keySize m .1 (z, not-false (clean .0));
-        slot-there = omega (arith, slot-count keySize table, leb-false (length (slots keySize table)) (w .slot) (there .0));
-        live = omega arith;
+        clean = write-clean keySize m .1 (z, taken .0);
+        slot-there = omega (arith, slot-count keySize table, taken .1);
+        live = taken .2;
       }
 
   -- so a call on whole slots, with room for the report, is refused exactly as the model says
