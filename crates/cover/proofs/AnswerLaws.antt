@@ -5,7 +5,6 @@ use mathlib.Core.List.{List}
 use mathlib.Core.Option.{none, some}
 use native.Mathlib.Omega.{arith}
 use lib.ListN.{length, take}
-use lib.Seq.{length-take-le}
 use borrow.Author.Tests.{lt-ltb, le-ltb}
 use Rattle.model.specs.Policy.{dependents, before}
 use Rattle.model.specs.Refusals.{shortOutput, noSuchRule}
@@ -23,7 +22,7 @@ use Rattle.policy.specs.declared.PolicyAnswer.{PolicyAnswer}
 use Rattle.policy.specs.declared.PolicyAnswer.the-variants.{Refused as Bad, Rules}
 use Rattle.numbers.specs.Numbers.{Lists}
 use Rattle.numbers.specs.Written.{numberBytes}
-use Rattle.numbers.proofs.GatherLaws.{Gathered, gathered-few}
+use Rattle.numbers.proofs.GatherLaws.{lists-long, Gathered, gathered-few}
 use Rattle.cover.specs.Depends.{dependsOn}
 use Rattle.cover.specs.Answers.{coverList, coverRefusal, Covered}
 use Rattle.cover.specs.declared.CoverAnswer.the-variants.{Refused, Count}
@@ -69,7 +68,7 @@ module _ (policy : List ℕ) (number : ℕ) (out : List ℕ) where
 
     module _ {items : List ℕ} {count : ℕ} (low : number < n) (list : Lists items count (coverList policy number)) where
       long : length (coverList policy number) ≡ count
-      long = rw (← list .same) (length-take-le count items (list .few))
+      long = lists-long (coverList policy number) list
 
       pub refused-short : length out < 2 * count → Covered policy number out (Refused (refusal shortOutput 0)) out
       unfolding coverRefusal

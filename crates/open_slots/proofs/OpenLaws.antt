@@ -8,7 +8,7 @@ use native.Mathlib.Omega.{arith}
 use native.Mathlib.Numerals.{add-one}
 use lib.Dec.{ltb}
 use lib.ListN.{length, take, set, length-set}
-use lib.Seq.{take-suc-set, length-take-le}
+use lib.Seq.{take-suc-set}
 use borrow.Author.Tests.{lt-ltb, le-ltb}
 use Rattle.ends.specs.Records.{slotAt}
 use Rattle.ends.specs.Ends.{isOpen, openList}
@@ -26,7 +26,7 @@ use Rattle.slots.proofs.SlotLaws.{slot-count}
 use Rattle.slots.proofs.FitLaws.{fit-whole}
 use Rattle.numbers.specs.Numbers.{Lists}
 use Rattle.numbers.specs.Written.{numberBytes}
-use Rattle.numbers.proofs.GatherLaws.{Gathered, gathered-none, gathered-few, gathered-passed, gathered-all}
+use Rattle.numbers.proofs.GatherLaws.{lists-long, Gathered, gathered-none, gathered-few, gathered-passed, gathered-all}
 use Rattle.open_slots.specs.Opens.{openIn, openRefusal, Opened}
 use Rattle.open_slots.specs.declared.OpenAnswer.the-variants.{Refused, Count}
 
@@ -76,9 +76,6 @@ module _ (keeper : List ℕ) where
     open-done e = gathered-all (openAt keeper) ltb (is .gathered) (omega (arith, slot-count keySize keeper))
 
 -- ---- the list is no longer than the keeper
-
-lists-long : {items : List ℕ} {count : ℕ} (xs : List ℕ) → Lists items count xs → length xs ≡ count
-lists-long {items} {count} xs list = rw (← list .same) (length-take-le count items (list .few))
 
 open-length : (keeper : List ℕ) → length (openIn keeper) ≤ slotCount keySize keeper
 unfolding openList
