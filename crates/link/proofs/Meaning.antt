@@ -13,6 +13,7 @@ use Rattle.ternary.specs.Sizes.{keySize, positions}
 use Rattle.records.specs.Layout.{slotSize, mostSlots}
 use Rattle.slots.specs.Slots.{slotCount, slots}
 use Rattle.slots.specs.Refusals.{WholeSlots}
+use Rattle.slots.proofs.FitLaws.{whole-slots}
 use Rattle.slots.proofs.SlotBytes.{ByteSlots, slots-byte}
 use Rattle.messages.specs.Writes.{decodeWrite}
 use Rattle.messages.specs.Reports.{decodeReport}
@@ -58,7 +59,7 @@ pub record Stepped (p : Decisions) (count : ℕ) (s s′ : State) : Type 0 where
 
 module _ {count : ℕ} {s : State} (f : Formed count s) where
   pub whole-of : (bs : List ℕ) → length bs ≡ slotSize keySize * count → WholeSlots bs
-  whole-of bs l = record { whole = omega arith; some-there = omega (arith, f .some-there); few-there = omega (arith, f .few-there) }
+  whole-of bs l = whole-slots bs count l (f .some-there) (f .few-there)
 
   pub keeper-whole : WholeSlots (s .keeper)
   keeper-whole = whole-of (s .keeper) (f .keeper-long)

@@ -15,7 +15,7 @@ use Rattle.records.specs.Traces.{packetCount}
 use Rattle.checks.proofs.RefusalLaws.{or-none}
 use Rattle.checks.specs.declared.refusal.Refusal.{Refusal}
 use Rattle.slots.specs.Refusals.{slotsRefusal}
-use Rattle.slots.proofs.FitLaws.{slots-accepted}
+use Rattle.slots.proofs.FitLaws.{slots-accepted, whole-slots}
 use Rattle.totals.specs.Sums.{asTotals, totalsFit}
 use Rattle.run_refusals.specs.Refusals.{traceRefusal, endsRefusal, runRefusal}
 use Rattle.trace.specs.Runs.{RunIs}
@@ -40,13 +40,9 @@ abbrev outputRoom : ℕ
 outputRoom = outcomeSize * mostPackets
 
 module _ (n : ℕ) (some-there : 1 ≤ n) (few-there : n ≤ mostSlots) where
-  end-long : length (clearedEnd n) ≡ slotSize keySize * n
-  end-long = length-replicate (slotSize keySize * n) 0
-
   end-accepted : slotsRefusal (clearedEnd n) ≡ none
   end-accepted =
-      slots-accepted (clearedEnd n) .1
-      (record { whole = omega (arith, end-long); some-there = omega (arith, end-long); few-there = omega (arith, end-long) })
+      slots-accepted (clearedEnd n) .1 (whole-slots (clearedEnd n) n (length-replicate (slotSize keySize * n) 0) some-there few-there)
 
   ends-accepted : endsRefusal (clearedEnd n) (clearedEnd n) ≡ none
   unfolding endsRefusal

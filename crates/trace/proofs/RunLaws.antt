@@ -19,10 +19,9 @@ use Rattle.records.specs.Traces.{packetCount, keys}
 use Rattle.checks.specs.declared.refusal.Refusal.{Refusal}
 use Rattle.checks.specs.Refusals.{partsOf}
 use Rattle.checks.proofs.RefusalLaws.{none-first, need-none, parts-refused}
-use Rattle.slots.specs.Slots.{encodeSlot, slots}
+use Rattle.slots.specs.Slots.{encodeSlot}
 use Rattle.slots.specs.Refusals.{slotsRefusal, WholeSlots}
-use Rattle.slots.proofs.SlotLaws.{slots-spell}
-use Rattle.slots.proofs.FitLaws.{slots-accepted, as-whole}
+use Rattle.slots.proofs.FitLaws.{slots-accepted, spelled-back}
 use Rattle.policy.specs.Refusals.{policyRefusal}
 use Rattle.policy.proofs.CheckLaws.{passed-few}
 use Rattle.totals.specs.declared.Totals.{Totals as TotalsStruct}
@@ -96,10 +95,6 @@ module _ (policy trace table keeper out : List ℕ) (t : TotalsStruct) where
   unfolding runOf
   run-refused e s = let o = parts-refused refused e s in record { whole = rw o; meaning = rw o }
 
-  -- the slots of an end say its bytes
-  spells : (end end′ : List ℕ) → length end′ ≡ length end → Bytes end′ → WholeSlots end → spelled encodeSlot (slots keySize end′) ≡ end′
-  spells end end′ l h whole = let w : WholeSlots end′ = as-whole l whole in slots-spell keySize end′ (w .whole) h
-
   pub run-ran : {s : TotalsStruct} {table′ keeper′ out′ : List ℕ} → refused ≡ none
       → RanOver policy (keys keySize trace) table keeper out (asTotals t) table′ keeper′ out′ (asTotals s)
       → length table′ ≡ length table → Bytes table′ → length keeper′ ≡ length keeper → Bytes keeper′
@@ -110,8 +105,8 @@ module _ (policy trace table keeper out : List ℕ) (t : TotalsStruct) where
       record {
         whole = rw o
             (same-shown refl (did .sums)
-            (sym (spells table table′ l h (w .table-whole)) ∙ ap (λ (e : Ends). spelled encodeSlot (e .table)) (did .ends))
-            (sym (spells keeper keeper′ m g (w .keeper-whole)) ∙ ap (λ (e : Ends). spelled encodeSlot (e .keeper)) (did .ends))
+            (sym (spelled-back table′ l (w .table-whole) h) ∙ ap (λ (e : Ends). spelled encodeSlot (e .table)) (did .ends))
+            (sym (spelled-back keeper′ m (w .keeper-whole) g) ∙ ap (λ (e : Ends). spelled encodeSlot (e .keeper)) (did .ends))
             (did .told));
         meaning = rw o (did .ends);
       }
