@@ -8,13 +8,10 @@ use Rattle.model.specs.Policy.{best}
 use Rattle.ends.specs.Ends.{firstFor}
 use Rattle.ends.specs.Show.{Shown, slotShown, ruleShown, nothingShown, shown, ShownFor}
 use Rattle.ends.proofs.Show.{shown-for}
-use Rattle.ends.proofs.Slots.{found}
 use Rattle.ternary.specs.Sizes.{keySize, positions}
-use Rattle.records.specs.Layout.{mostSlots}
 use Rattle.records.specs.Rules.{ruleCount, rules}
 use Rattle.checks.specs.declared.refusal.Refusal.{Refusal}
 use Rattle.slots.specs.Slots.{slotCount, slots}
-use Rattle.slots.specs.Refusals.{WholeSlots}
 use Rattle.slots.proofs.SlotLaws.{slot-count}
 use Rattle.parts.specs.Parts.{partsRefusal}
 use Rattle.best.proofs.BestLaws.{best-below}
@@ -73,18 +70,11 @@ module _ (policy key table : List ℕ) where
       unfolding showAnswer shown
       says-none e = rw (fine, missed, e)
 
--- a slot that takes the key is one of the table, which has few
-slot-below : (key table : List ℕ) (i : ℕ) → firstFor positions (slots keySize table) key ≡ some i → i < slotCount keySize table
-slot-below key table i e = omega (arith, found positions (slots keySize table) key i e .inside, slot-count keySize table)
-
-pub slot-few : (key table : List ℕ) (i : ℕ) → WholeSlots table → firstFor positions (slots keySize table) key ≡ some i → i < mostSlots
-slot-few key table i whole e = omega (arith, slot-below key table i e, whole .few-there)
-
 module _ (policy key table : List ℕ) where
   decides : ShownFor positions (rules keySize policy) (slots keySize table) key
   decides = shown-for positions (rules keySize policy) (slots keySize table) key
 
-  -- so is a slot that is shown; and a rule that is shown is one of the policy
+  -- a slot that is shown is one of the table, and a rule that is shown one of the policy
   pub table-below : (i : ℕ) → showAnswer policy key table ≡ FromTable i → i < slotCount keySize table
   table-below i e = omega (arith, decides .slot i .0 (table-shown policy key table i e .1) .inside, slot-count keySize table)
 

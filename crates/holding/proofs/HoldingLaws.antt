@@ -9,7 +9,11 @@ use lib.ListN.{length}
 use Rattle.ends.specs.Ends.{Key, holds, firstFor}
 use Rattle.model.proofs.BelowLaws.{Passed, passed-none, passed-more}
 use Rattle.model.proofs.OrderLaws.{first-found, first-missed}
+use Rattle.ends.proofs.Slots.{found}
+use Rattle.ternary.specs.Sizes.{keySize, positions}
+use Rattle.records.specs.Layout.{mostSlots}
 use Rattle.slots.specs.Slots.{slotCount, slots}
+use Rattle.slots.specs.Refusals.{WholeSlots}
 use Rattle.holding.specs.Holding.{holdingOf}
 use Rattle.holding.specs.declared.Holding.the-variants.{Nowhere, At}
 use Rattle.slots.proofs.SlotLaws.{slot-count}
@@ -48,3 +52,11 @@ found-nowhere (some i) e = let z : _≡_ {A = ℕ} 0 1 = cc in absurd (omega ari
 pub found-at : (o : Option ℕ) (i : ℕ) → At i ≡ holdingOf o → o ≡ some i
 found-at none i e = let z : _≡_ {A = ℕ} 0 1 = cc in absurd (omega arith)
 found-at (some k) i e = cc
+
+-- a slot that takes the key is one of the buffer, which has few where its slots are whole
+module _ (bs : List ℕ) (key : Key) (i : ℕ) (e : firstFor positions (slots keySize bs) key ≡ some i) where
+  pub held-below : i < slotCount keySize bs
+  held-below = omega (arith, found positions (slots keySize bs) key i e .inside, slot-count keySize bs)
+
+  pub held-few : WholeSlots bs → i < mostSlots
+  held-few whole = omega (arith, held-below, whole .few-there)

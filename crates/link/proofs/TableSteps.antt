@@ -8,15 +8,14 @@ use lib.ListN.{length}
 use Rattle.ends.specs.Records.{Slot, Write, Report, reportFor, slotAt}
 use Rattle.ends.specs.Ends.{Decisions, firstFor, counted, hitAt, lookup, writeReport}
 use Rattle.ends.specs.World.{packet, writeArrives, hitReport, step}
-use Rattle.ends.proofs.Slots.{found}
 use Rattle.ternary.specs.Sizes.{keySize, positions}
 use Rattle.records.specs.Layout.{mostSlots}
 use Rattle.checks.specs.declared.refusal.Refusal.{Refusal}
 use Rattle.slots.specs.Slots.{slotCount, slots}
 use Rattle.slots.specs.Refusals.{WholeSlots}
-use Rattle.slots.proofs.SlotLaws.{slot-count}
 use Rattle.slots.proofs.ByteSlots.{ByteSlot, counted-byte}
 use Rattle.slots.proofs.SlotBytes.{slots-byte}
+use Rattle.holding.proofs.HoldingLaws.{held-below}
 use Rattle.messages.specs.Writes.{decodeWrite}
 use Rattle.messages.specs.Reports.{decodeReport, ReportFits}
 use Rattle.table.specs.Lookups.{lookupRefusal, lookupAnswer, tableAfterLookup, LookedUp}
@@ -52,7 +51,7 @@ module _ (p : Decisions) {count : ℕ} {s : State} (f : Formed count s) where
     lookup-gives none e fine = rw (looked-up is fine .0, e) gives-none
     lookup-gives (some i) e fine =
         let a = looked-up is fine in
-        let l : i < slotCount keySize (s .table) = omega (arith, found positions t key i e .inside, slot-count keySize (s .table)) in
+        let l = held-below (s .table) key i e in
         let x : Report = reportFor i (counted (slotAt t i)) in
         let fits : ReportFits x =
         report-fits i (counted (slotAt t i)) (omega (arith, table-whole f .few-there))

@@ -9,7 +9,6 @@ use lib.ListN.{length, set}
 use Rattle.model.specs.Bits.{Bytes}
 use Rattle.ends.specs.Records.{Slot, slotAt, entryIn, written}
 use Rattle.ends.specs.Ends.{counted, countedAt, firstFor, afterLookup, isNewer, afterWrite}
-use Rattle.ends.proofs.Slots.{found}
 use Rattle.ternary.specs.Sizes.{keySize, positions}
 use Rattle.buffers.proofs.PartLaws.{part-length, part-bytes}
 use Rattle.buffers.proofs.ByteLaws.{two-below, four-below}
@@ -18,8 +17,9 @@ use Rattle.checks.specs.Refusals.{unlessRefused}
 use Rattle.checks.specs.declared.refusal.Refusal.{Refusal}
 use Rattle.slots.specs.Slots.{slotCount, slots, putSlot}
 use Rattle.slots.specs.Refusals.{WholeSlots}
-use Rattle.slots.proofs.SlotLaws.{slot-count, slot-at, length-put-slot, slots-put}
+use Rattle.slots.proofs.SlotLaws.{slot-at, length-put-slot, slots-put}
 use Rattle.slots.proofs.ByteSlots.{ByteSlot, slot-byte, counted-byte, put-bytes}
+use Rattle.holding.proofs.HoldingLaws.{held-below}
 use Rattle.messages.specs.Writes.{decodeWrite}
 use Rattle.table.specs.Lookups.{lookupRefusal, countedBytes, slotsAfterLookup, tableAfterLookup}
 use Rattle.received.specs.Writes.{writeCallRefusal, slotsAfterWrite, tableAfterWrite}
@@ -63,7 +63,7 @@ module _ (table : List ℕ) (h : Bytes table) where
     after-found (some r) f e k = same
     after-found none none e k = same
     after-found none (some i) e k =
-        let l : i < slotCount keySize table = omega (arith, found positions (slots keySize table) key i k .inside, slot-count keySize table) in
+        let l = held-below table key i k in
         replaced (lookup-whole key table room e) i _ l (counted-there (lookup-whole key table room e) i l)
 
     pub after-lookup : Became table (slotsAfterLookup key table room) (tableAfterLookup key table room)

@@ -9,7 +9,6 @@ use lib.ListN.{length}
 use borrow.Author.Tests.{leb-true}
 use Rattle.ends.specs.Records.{Slot, slotAt, reportFor}
 use Rattle.ends.specs.Ends.{counted, firstFor, lookup, afterLookup}
-use Rattle.ends.proofs.Slots.{found}
 use Rattle.ternary.specs.Sizes.{keySize, positions}
 use Rattle.buffers.specs.Parts.{splice}
 use Rattle.records.specs.Layout.{reportSize, mostSlots}
@@ -18,8 +17,9 @@ use Rattle.checks.proofs.RefusalLaws.{none-first, need-none}
 use Rattle.checks.specs.Keys.{keyRefusal}
 use Rattle.slots.specs.Slots.{slotCount, slots}
 use Rattle.slots.specs.Refusals.{slotsRefusal, WholeSlots}
-use Rattle.slots.proofs.SlotLaws.{slot-count, slot-at}
+use Rattle.slots.proofs.SlotLaws.{slot-at}
 use Rattle.slots.proofs.FitLaws.{slots-accepted}
+use Rattle.holding.proofs.HoldingLaws.{held-below, held-few}
 use Rattle.hits.specs.Hits.{Counted}
 use Rattle.messages.specs.Reports.{encodeReport}
 use Rattle.table.specs.Lookups.{roomRefusal, lookupRefusal, foundOf, findAnswer}
@@ -65,10 +65,10 @@ module _ (key table : List ℕ) (room : ℕ) where
 
     -- the slot that is found is one of the table, and the output has room for its report
     pub hit-below : i < slotCount keySize table
-    hit-below = omega (arith, found positions (slots keySize table) key i (hit-there .1) .inside, slot-count keySize table)
+    hit-below = held-below table key i (hit-there .1)
 
     pub hit-few : i < mostSlots
-    hit-few = omega (arith, hit-below, lookup-whole (hit-there .0) .few-there)
+    hit-few = held-few table key i (hit-there .1) (lookup-whole (hit-there .0))
 
     pub hit-fits : reportSize ≤ room
     hit-fits = hit-room i (hit-there .0) (hit-there .1)

@@ -7,13 +7,13 @@ use Rattle.ends.specs.Ends.{firstFor}
 use Rattle.ternary.specs.Sizes.{keySize, positions}
 use Rattle.checks.proofs.RefusalLaws.{parts-refused, parts-none}
 use Rattle.slots.specs.Slots.{slots}
-use Rattle.holding.proofs.HoldingLaws.{found-nowhere, found-at}
+use Rattle.holding.proofs.HoldingLaws.{found-nowhere, found-at, held-few}
 use Rattle.policy.proofs.CheckLaws.{passed-few}
 use Rattle.parts.specs.Parts.{partsRefusal}
 use Rattle.parts.proofs.PartLaws.{parts-fine}
 use Rattle.best.proofs.BestLaws.{found-none, found-rule}
 use Rattle.decision.specs.Answers.{showAnswer}
-use Rattle.decision.proofs.AnswerLaws.{says-slot, says-rule, says-none, slot-few}
+use Rattle.decision.proofs.AnswerLaws.{says-slot, says-rule, says-none}
 use Rattle.decision.proofs.show_answer.Statement.{statement}
 use Rattle.decision.proofs.show_answer.Tie as tie
 
@@ -38,7 +38,7 @@ first-holding-requires : tie.Need-first-holding-requires
 first-holding-requires c κs = parts-fine _ _ _ (parts-none _ (c .before .before .check-parts .ensures) (c .enum-told .given .1)) .long
 
 cast-t9 : tie.Need-cast-t9
-cast-t9 c = omega (arith, slot-few _ _ _ (parts-fine _ _ _ (fine (c .before .before .before)) .whole) (there (c .before)))
+cast-t9 c = omega (arith, held-few _ _ _ (there (c .before)) (parts-fine _ _ _ (fine (c .before .before .before)) .whole))
 
 returns-2 : tie.Need-returns-2
 returns-2 c = says-slot _ _ _ (fine (c .before .before .before)) _ (there (c .before))
