@@ -9,17 +9,17 @@ use Rattle.ends.specs.Records.{Slot, Write, Report, reportFor, slotAt}
 use Rattle.ends.specs.Ends.{Decisions, firstFor, counted, hitAt, lookup, writeReport}
 use Rattle.ends.specs.World.{packet, writeArrives, hitReport, step}
 use Rattle.ternary.specs.Sizes.{keySize, positions}
-use Rattle.records.specs.Layout.{mostSlots}
 use Rattle.checks.specs.declared.refusal.Refusal.{Refusal}
 use Rattle.slots.specs.Slots.{slotCount, slots}
 use Rattle.slots.specs.Refusals.{WholeSlots}
-use Rattle.slots.proofs.ByteSlots.{ByteSlot, counted-byte}
+use Rattle.slots.proofs.ByteSlots.{counted-byte}
 use Rattle.slots.proofs.SlotBytes.{slots-byte}
 use Rattle.holding.proofs.HoldingLaws.{held-below}
 use Rattle.messages.specs.Writes.{decodeWrite}
 use Rattle.messages.specs.Reports.{decodeReport, ReportFits}
 use Rattle.table.specs.Lookups.{lookupRefusal, lookupAnswer, tableAfterLookup, LookedUp}
 use Rattle.table.specs.declared.lookup.LookupAnswer.{LookupAnswer}
+use Rattle.table.proofs.SlotReports.{report-fits}
 use Rattle.received.specs.Writes.{writeCallRefusal, tableAfterWrite, Received}
 use Rattle.received.specs.declared.write.WriteAnswer.{WriteAnswer}
 use Rattle.received.proofs.WriteLaws.{good-call}
@@ -30,10 +30,6 @@ use Rattle.link.specs.Calls.{lookup as lookupCall, write as writeCall}
 use Rattle.link.proofs.MessageBytes.{ReportBytes}
 use Rattle.link.proofs.Given.{Gives, gives-none, gives-report, sent-meant, place-of}
 use Rattle.link.proofs.Meaning.{meaning, same-world, Formed, Replaced, Stepped, whole-of, table-whole, table-slots, stayed, table-formed}
-
--- the report of a slot that bytes can hold
-report-fits : (i : ℕ) (x : Slot) → i < mostSlots → ByteSlot keySize x → ReportFits (reportFor i x)
-report-fits i x l b = record { slot-fits = omega arith; sequence-fits = b .fits .sequence-fits; hits-fits = b .fits .hits-fits }
 
 module _ (p : Decisions) {count : ℕ} {s : State} (f : Formed count s) where
   abbrev t : List Slot

@@ -24,7 +24,7 @@ use Rattle.table.specs.declared.lookup.LookupAnswer.the-variants.{Hit}
 use Rattle.received.proofs.ModelLaws.{good-lookup, looked-up}
 use Rattle.keeper.specs.Reports.{Reported}
 use Rattle.keeper.specs.declared.ReportAnswer.{ReportAnswer}
-use Rattle.sending.proofs.SentLaws.{same-ends, report-fits, reported-to}
+use Rattle.sending.proofs.SentLaws.{same-ends, told-fits, reported-to}
 use Rattle.packet.specs.Packets.{FinePacket, Became, missedOutcome, missedEnds, packetOutcome, packetEnds}
 
 module _ {policy key table keeper out table′ out′ : List ℕ} {r : LookupAnswer}
@@ -61,7 +61,7 @@ module _ {policy key table keeper out table′ out′ : List ℕ} {r : LookupAns
       let after : slots keySize table′ ≡ countedAt t (some slot) = rw (at .0) at (did .1) in
       let below : slot < slotCount keySize table′ = omega (arith, l, slot-count keySize table) in
       let there : slotAt (slots keySize table′) slot ≡ x = rw after (getD-set-same t slot x (cleared 0) inside) in
-      let fits : ReportFits (reportFor slot x) = rw there at (report-fits table′ slot h (as-whole l (fine .table-whole)) below) in
+      let fits : ReportFits (reportFor slot x) = rw there at (told-fits table′ slot h (as-whole l (fine .table-whole)) below) in
       let told : out′ ≡ encodeReport (reportFor slot x) =
       (rw (at .0) at (did .2)) ∙ splice-all (encodeReport (reportFor slot x)) out (unfold encodeReport in sym room)
       in

@@ -2,7 +2,7 @@
 use mathlib.Core.Path.{_≡_, refl, sym, ap, _∙_}
 use mathlib.Core.List.{List}
 use mathlib.Core.Option.{Option, none, some}
-use Prim.Native.Nat.{ℕ, _+_, _*_, _≤_, _<_}
+use Prim.Native.Nat.{ℕ, _<_}
 use native.Mathlib.Omega.{arith}
 use lib.ListN.{length}
 use Rattle.model.specs.Bits.{Bytes}
@@ -12,18 +12,18 @@ use Rattle.ends.specs.Trace.{Ends, reportedTo, writtenTo}
 use Rattle.model.proofs.Cases.{none-some}
 use Rattle.ternary.specs.Sizes.{keySize, positions}
 use Rattle.buffers.proofs.PartLaws.{splice-all}
-use Rattle.records.specs.Layout.{slotSize, reportSize}
+use Rattle.records.specs.Layout.{reportSize}
 use Rattle.checks.specs.Refusals.{unlessRefused}
 use Rattle.checks.specs.declared.refusal.Refusal.{Refusal}
 use Rattle.slots.specs.Slots.{slotCount, slots}
 use Rattle.slots.specs.Refusals.{WholeSlots}
-use Rattle.slots.proofs.SlotLaws.{slot-at}
 use Rattle.slots.proofs.FitLaws.{as-whole}
-use Rattle.slots.proofs.ByteSlots.{slot-byte}
+use Rattle.slots.proofs.SlotBytes.{slots-byte}
 use Rattle.messages.specs.Writes.{decodeWrite, encodeWrite, WriteFits}
 use Rattle.messages.specs.Reports.{decodeReport, encodeReport, ReportFits}
 use Rattle.messages.proofs.WriteLaws.{decode-encode-write, length-encode-write, spares-encode-write}
 use Rattle.messages.proofs.ReportLaws.{decode-encode-report}
+use Rattle.table.proofs.SlotReports.{report-fits}
 use Rattle.received.specs.Writes.{writeCallRefusal, Received, slotsAfterWrite}
 use Rattle.received.specs.declared.write.WriteAnswer.{WriteAnswer}
 use Rattle.received.specs.declared.write.WriteAnswer.the-variants.{Refused, Taken}
@@ -40,14 +40,10 @@ same-ends p q i = record { keeper = p i; table = q i }
 
 -- ---- a report goes to the keeper
 
--- the report of a slot is one that a report's bytes can hold
-pub report-fits : (table : List ℕ) (i : ℕ) → Bytes table → WholeSlots table → i < slotCount keySize table
+-- the report of a table's slot is one that a report's bytes can hold
+pub told-fits : (table : List ℕ) (i : ℕ) → Bytes table → WholeSlots table → i < slotCount keySize table
     → ReportFits (reportFor i (slotAt (slots keySize table) i))
-report-fits table i h whole l =
-    let room : slotSize keySize * i + slotSize keySize ≤ length table = omega (arith, whole .whole) in
-    let f = slot-byte keySize table i room h .fits in
-    rw (slot-at keySize table i l)
-    (record { slot-fits = omega (arith, whole .few-there); sequence-fits = f .sequence-fits; hits-fits = f .hits-fits })
+told-fits table i h whole l = report-fits i _ (omega (arith, whole .few-there)) (slots-byte table whole h .each i l)
 
 module _ (keeper : List ℕ) (x : Report) (whole : WholeSlots keeper) (f : ReportFits x) where
   abbrev k : List Slot
@@ -111,7 +107,7 @@ module _ {table keeper m out table′ out′ : List ℕ} {r : WriteAnswer} {w : 
       let inside : w .slot < slotCount keySize table′ =
       omega (arith, l, ap (λ (x : Write). x .slot) means, good-call table m (length out) .0 fine .good .slot-there)
       in
-      let fits : ReportFits (writeReport t w) = rw after at (report-fits table′ (w .slot) h (as-whole l (ends .table-whole)) inside) in
+      let fits : ReportFits (writeReport t w) = rw after at (told-fits table′ (w .slot) h (as-whole l (ends .table-whole)) inside) in
       let told : out′ ≡ encodeReport (writeReport t w) =
       (rw means at (did .2)) ∙ splice-all (encodeReport (writeReport t w)) out (unfold encodeReport in sym room)
       in
