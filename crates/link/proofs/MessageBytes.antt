@@ -1,23 +1,21 @@
 -- Messages that the two ends give: right length, kind and zero bytes; and what a call left at the start of its output is the message that it
 -- gave. Assumes nothing.
 use mathlib.Core.Path.{_≡_, refl}
-use mathlib.Core.List.{List, [], _∷_, _++_}
+use mathlib.Core.List.{List}
 use Prim.Native.Nat.{ℕ, _≤_}
 use native.Mathlib.Omega.{arith}
-use lib.ListN.{length, take, drop, getD}
+use lib.ListN.{length, take, getD}
 use Rattle.model.specs.Bits.{Bytes}
 use Rattle.ends.specs.Records.{Write, Report}
 use Rattle.ternary.specs.Sizes.{keySize}
-use Rattle.buffers.specs.Numbers.{toBe}
 use Rattle.buffers.specs.Parts.{splice}
 use Rattle.buffers.proofs.PartLaws.{part-of-splice}
-use Rattle.buffers.proofs.FieldLaws.{after-rows, byte-past}
 use Rattle.buffers.proofs.ByteLaws.{byte-more, byte-none, append-bytes, toBe-bytes}
-use Rattle.records.specs.Layout.{writeKind, writeValue, writeAction, writeSize, isWrite, reportKind, reportZero, reportSize, isReport}
+use Rattle.records.specs.Layout.{writeKind, writeSize, isWrite, reportKind, reportZero, reportSize, isReport}
 use Rattle.checks.specs.Flaws.{Zeros, writeSpares}
 use Rattle.messages.specs.Writes.{decodeWrite, encodeWrite, WriteFits}
 use Rattle.messages.specs.Reports.{decodeReport, encodeReport, ReportFits}
-use Rattle.messages.proofs.WriteLaws.{decode-encode-write, length-encode-write}
+use Rattle.messages.proofs.WriteLaws.{decode-encode-write, length-encode-write, spares-encode-write}
 use Rattle.messages.proofs.ReportLaws.{decode-encode-report}
 
 -- ---- writes
@@ -36,22 +34,14 @@ pub record ByteWrite (x : Write) : Type 0 where
   pub mask-bytes : Bytes (x .mask)
 
 module _ (x : Write) (b : ByteWrite x) where
-  abbrev numbers : List ℕ
-  numbers = toBe 2 (x .action) ++ (toBe 2 (x .rule) ++ (0 ∷ 0 ∷ []))
-
-  abbrev spelt : List ℕ
-  spelt = (isWrite ∷ 0 ∷ []) ++ (toBe 2 (x .slot) ++ (toBe 4 (x .sequence) ++ (x .value ++ (x .mask ++ numbers))))
-
-  last : drop (writeAction keySize) spelt ≡ numbers
-  last = after-rows keySize writeValue spelt (x .value) (x .mask) numbers refl (b .fits .value-long) (b .fits .mask-long)
-
   pub encoded-write : WriteBytes (encodeWrite x)
   unfolding encodeWrite
   encoded-write =
+      let z = spares-encode-write keySize x (b .fits) in
       record {
         long = length-encode-write keySize x (b .fits);
         kind = refl;
-        zeros = (refl, (byte-past spelt (writeAction keySize) last 4, (byte-past spelt (writeAction keySize) last 5, tt)));
+        zeros = (refl, (z .0, (z .1, tt)));
         bytes = byte-more (omega arith) (byte-more (omega arith)
             (append-bytes _ _ (toBe-bytes 2 (x .slot))
             (append-bytes _ _ (toBe-bytes 4 (x .sequence))
