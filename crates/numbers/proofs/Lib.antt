@@ -1,3 +1,3 @@
--- Laws of lists of rule numbers: gathered by a loop, and their bytes.
+-- Laws of lists of numbers: gathered by a loop, and their bytes.
 pub mod GatherLaws
 pub mod ByteLaws

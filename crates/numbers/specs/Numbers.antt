@@ -1,4 +1,4 @@
--- A list of rule numbers at the front of an array. Assumes nothing.
+-- A list of numbers at the front of an array. Assumes nothing.
 use mathlib.Core.Path.{_≡_}
 use mathlib.Core.List.{List}
 use Prim.Native.Nat.{ℕ, _≤_, _<_}

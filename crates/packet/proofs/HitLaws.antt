@@ -32,9 +32,6 @@ module _ {policy key table keeper out table′ out′ : List ℕ} {r : LookupAns
   abbrev t : List Slot
   t = slots keySize table
 
-  abbrev k : List Slot
-  k = slots keySize keeper
-
   -- the lookup is not refused
   open-to : lookupRefusal key table (length out) ≡ none
   open-to =

@@ -53,7 +53,7 @@ record Read (text : List ℕ) (r : ℕ) : Type 0 where
   pub long : 2 ≤ length text
   pub short : length text ≤ 4
   pub ended : getD text (length text - 1) 0 ≡ newline
-  pub no-zero : getD text 0 0 ≡ 48 → ⊥
+  no-zero : getD text 0 0 ≡ 48 → ⊥
   pub number : r ≡ numberIn (take (length text - 1) text)
 
 read-passed : (text : List ℕ) → 1 ≤ readSlots text → Read text (readSlots text)
