@@ -23,7 +23,6 @@ pub record Taken (slots policy trace : List ℕ) (n : ℕ) : Type 0 where
   pub count : n ≡ slotsIn slots
   pub some-there : 1 ≤ n
   pub few-there : n ≤ mostSlots
-  pub policy-short : length policy ≤ mostPolicyBytes
   pub trace-short : length trace ≤ mostTraceBytes
 
 of-refused : (o : Option Refusal) (n : ℕ) {r : Refusal} → answerOf o n ≡ Refused r → o ≡ some r
@@ -53,6 +52,5 @@ module _ (slots policy trace : List ℕ) where
         count = of .1;
         some-there = omega (arith, of .1, leb-true 1 (slotsIn slots) (first .0));
         few-there = omega (arith, of .1, slots-few slots);
-        policy-short = leb-true (length policy) mostPolicyBytes (second .0);
         trace-short = leb-true (length trace) mostTraceBytes (third .0);
       }
