@@ -12,7 +12,7 @@ use Rattle.model.specs.Bits.{Bytes, bitAt}
 use Rattle.ends.specs.Records.{Slot, writeFor, written, entryOf, slotAt}
 use Rattle.model.specs.Policy.{Rule, ruleAt, best}
 use Rattle.model.specs.Isolate.{isolatedAt, isolate}
-use Rattle.ends.specs.Ends.{firstFor, top, largest, roomIn, Miss, noRule, again, place, usedUp, missOf, nextEntry, onMiss}
+use Rattle.ends.specs.Ends.{Key, firstFor, top, largest, roomIn, Miss, noRule, again, place, usedUp, missOf, nextEntry, onMiss}
 use Rattle.model.proofs.Cases.{by-cases}
 use Rattle.model.proofs.BitLaws.{bit-lt, length-with}
 use Rattle.model.proofs.PolicyLaws.{best-inside}
@@ -43,6 +43,10 @@ module _ {count : ℕ} {k : List Slot} (h : ByteSlots count k) where
 
   largest-low : largest k ≤ top
   largest-low = largest-le k top sequence-low
+
+  -- a slot that takes a key is one of them
+  pub held-inside : (key : Key) (i : ℕ) → firstFor positions k key ≡ some i → i < count
+  held-inside key i e = omega (arith, found positions k key i e .inside, h .long)
 
 -- the write of a slot that bytes can hold
 pub write-there : (bs : List ℕ) → WholeSlots bs → (i : ℕ) (x : Slot) → i < slotCount keySize bs → ByteSlot keySize x
@@ -111,7 +115,7 @@ module _ (policy : List ℕ) (h : Bytes policy) (is : AcceptedBytes policy) wher
     fits-of : (found-best at : Option ℕ) (used : Bool) → best positions pol key ≡ found-best → firstFor positions ks key ≡ at
         → eqb (largest ks) top ≡ used → MissFits count (missOf found-best at used (roomIn ks) (nextEntry (deciding policy) ks key))
     fits-of none at used e f u = tt
-    fits-of (some r) (some i) used e f u = omega (arith, found positions ks key i f .inside, b .long)
+    fits-of (some r) (some i) used e f u = held-inside b key i f
     fits-of (some r) none true e f u = tt
     fits-of (some r) none false e f u =
         (omega (arith, roomIn-lt ks (omega (arith, b .long)), b .long), next-byte r e u)

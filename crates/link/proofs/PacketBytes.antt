@@ -11,13 +11,12 @@ use Rattle.ends.specs.Ends.{Key, firstFor, counted, Miss, noRule, again, place,
 use Rattle.ends.specs.Ends.{writeRefusal, isNewer, afterWrite, writeReport, reportRefusal, isCurrent, afterReport}
 use Rattle.ends.specs.Trace.{Ends, reportedTo, writtenTo, sentTo, packetEnds, onePacket, trace}
 use Rattle.model.proofs.Cases.{cond-elim}
-use Rattle.ends.proofs.Slots.{found}
 use Rattle.ternary.specs.Sizes.{keySize, positions}
 use Rattle.slots.proofs.ByteSlots.{ByteSlot, with-byte, counted-byte, confirmed-byte}
 use Rattle.slots.proofs.SlotBytes.{ByteSlots, set-byte, hits-low}
 use Rattle.policy.specs.Refusals.{AcceptedBytes}
 use Rattle.decisions.specs.Decided.{deciding}
-use Rattle.link.proofs.MissBytes.{MissFits, miss-fits}
+use Rattle.link.proofs.MissBytes.{held-inside, MissFits, miss-fits}
 
 -- so many slots at each end, all of which bytes can hold
 pub record ByteEnds (count : ℕ) (e : Ends) : Type 0 where
@@ -72,7 +71,7 @@ module _ {count : ℕ} where
         missed-byte (e .keeper) (e .table) (h .keeper) (h .table) (onMiss positions (deciding policy) (e .keeper) key)
         (miss-fits policy b accepted (e .keeper) (h .keeper) one key)
     packet-byte e key h (some i) q =
-        let l : i < count = omega (arith, found positions (e .table) key i q .inside, h .table .long) in
+        let l = held-inside (h .table) key i q in
         let hit = counted-byte keySize (slotAt (e .table) i) (h .table .each i l) in
         let r : Report = reportFor i (counted (slotAt (e .table) i)) in
         record {
