@@ -13,7 +13,7 @@ use Rattle.ends.specs.World.{sent, hitReport, unless, tableTakes, keeperTakes, 
 use Rattle.ends.specs.Promise.{Kept}
 use Rattle.ends.specs.Trace.{Ends, trace}
 use Rattle.ends.specs.TraceLink.{endsOf}
-use Rattle.ends.proofs.Promise.{arrived}
+use Rattle.ends.proofs.Events.{arrived}
 use Rattle.ends.proofs.TraceLink.{run-append, grown-by-run}
 use Rattle.ternary.specs.Sizes.{keySize, positions}
 use Rattle.link.proofs.Given.{member-place}

@@ -11,7 +11,7 @@ use Rattle.model.specs.Policy.{Rule as PolicyRule, ruleAt}
 use Rattle.model.specs.Isolate.{Isolated, isolate}
 use Rattle.ends.specs.Ends.{firstFor, top, largest, roomIn, again, onMiss, nextEntry}
 use Rattle.ends.specs.Trace.{nothing}
-use Rattle.ends.proofs.Slots.{found, roomIn-lt}
+use Rattle.ends.proofs.Slots.{roomIn-lt}
 use Rattle.ternary.specs.Sizes.{keySize, positions}
 use Rattle.records.specs.Rules.{rules}
 use Rattle.slots.specs.Slots.{slotCount, slots}
@@ -20,7 +20,7 @@ use Rattle.holding.specs.Holding.{holdingOf}
 use Rattle.holding.specs.declared.Holding.{Holding}
 use Rattle.holding.specs.declared.Holding.the-variants.{Nowhere, At}
 use Rattle.slots.proofs.SlotLaws.{slot-count}
-use Rattle.holding.proofs.HoldingLaws.{found-nowhere, found-at}
+use Rattle.holding.proofs.HoldingLaws.{found-nowhere, found-at, held-below}
 use Rattle.messages.specs.Structs.{asWrite}
 use Rattle.outcomes.specs.Outcomes.{asOutcome}
 use Rattle.best.specs.Best.{bestFound}
@@ -64,8 +64,7 @@ module _ (policy key keeper : List ℕ) where
   held number {i} e t is = rw (found-at (firstFor positions ks key) i (sym t ∙ e)) is
 
   pub held-inside : {i : ℕ} {h : Holding} → h ≡ holdingOf (firstFor positions ks key) → h ≡ At i → i < slotCount keySize keeper
-  held-inside {i} e t =
-      omega (arith, found positions ks key i (found-at (firstFor positions ks key) i (sym t ∙ e)) .inside, slot-count keySize keeper)
+  held-inside {i} e t = held-below keeper key i (found-at (firstFor positions ks key) i (sym t ∙ e))
 
   pub not-held : (number : ℕ) {h : Holding} {d : Decision} → h ≡ holdingOf (firstFor positions ks key) → h ≡ Nowhere
       → DecidedAs policy keeper (missWith policy key keeper (some number) none) d → DecidedAs policy keeper (ruleMiss policy key keeper number) d
