@@ -1,3 +1,2 @@
 -- Laws of the search for a slot that takes a key.
-pub mod InPlace
 pub mod HoldingLaws

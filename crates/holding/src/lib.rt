@@ -1,5 +1,6 @@
 // The pattern of a slot, matched where it lies, and the first slot whose pattern takes a key.
 use records::layout;
+use slots::fields;
 ghost use mathlib.Core.Path.{_≡_};
 ghost use Prim.Native.Nat.{_<_};
 ghost use lib.ListN.{length};
@@ -13,7 +14,7 @@ pub fn slot_holds(s: &[u8], i: usize, key: &[u8]) -> bool
     requires { ⌜ (i < slotCount keySize (now s)) × (length (now key) ≡ keySize) ⌝ }
     ensures { λ r. ⌜ r ≡ holds positions (slots keySize (now (s .entry))) (now (key .entry)) i ⌝ }
 {
-    if buffers::be32(s, layout::SLOT_SIZE * i + layout::SLOT_SEQUENCE) == 0 {
+    if fields::sequence_at(s, i) == 0 {
         return false;
     }
     let value = layout::SLOT_SIZE * i + layout::SLOT_VALUE;

@@ -9,7 +9,7 @@ use native.Mathlib.Omega.{arith}
 use lib.Dec.{leb, eqb}
 use lib.ListN.{length, getD}
 use borrow.Author.Tests.{eqb-true, eq-eqb, ne-eqb, le-leb, lt-leb, lt-ltb, le-ltb}
-use Rattle.ends.specs.Records.{Slot, Report}
+use Rattle.ends.specs.Records.{Slot, Report, slotAt}
 use Rattle.ends.specs.Ends.{reportRefusal}
 use Rattle.ends.proofs.Refusals.{report-there}
 use Rattle.model.specs.Refusals.{ragged, wrongKind, badRecord, noSuchSlot, sequenceZero, reportAhead}
@@ -18,7 +18,7 @@ use Rattle.records.specs.Layout.{reportKind, reportZero, reportSize, isReport}
 use Rattle.checks.specs.Refusals.{need}
 use Rattle.checks.specs.Flaws.{isFlawed, reportFlaw}
 use Rattle.checks.specs.declared.refusal.Refusal.{Refusal}
-use Rattle.slots.specs.Slots.{slotCount, slotIn, slots}
+use Rattle.slots.specs.Slots.{slotCount, slots}
 use Rattle.slots.specs.Refusals.{slotsRefusal, WholeSlots}
 use Rattle.slots.proofs.SlotLaws.{slot-count}
 use Rattle.slots.proofs.FitLaws.{slots-accepted}
@@ -26,7 +26,6 @@ use Rattle.checks.proofs.CleanLaws.{report-clean}
 use Rattle.messages.specs.Reports.{decodeReport}
 use Rattle.checks.proofs.RefusalLaws.{none-first, need-none}
 use Rattle.settling.specs.Settling.{ReportTaken}
-use Rattle.settling.proofs.SettlingLaws.{there}
 use Rattle.keeper.specs.Reports.{numbered, bytesRefusal, reportRefused, answerOf, reportAnswer, Reported}
 use Rattle.keeper.specs.declared.ReportAnswer.{ReportAnswer}
 use Rattle.keeper.specs.declared.ReportAnswer.the-variants.{Refused, Taken}
@@ -74,14 +73,14 @@ module _ (keeper : List ℕ) (x : Report) where
     unfolding reportRefusal
     no-sequence z t = rw (inside, eq-eqb (x .sequence) 0 z) t
 
-    module _ {old : Slot} (is : old ≡ slotIn keySize keeper i) where
-      pub too-new : {r : ReportAnswer} → x .sequence ≢ 0 → old .sequence < x .sequence → Told r (some reportAhead)
+    module _ {last : ℕ} (is : last ≡ slotAt k i .sequence) where
+      pub too-new : {r : ReportAnswer} → x .sequence ≢ 0 → last < x .sequence → Told r (some reportAhead)
       unfolding reportRefusal
-      too-new n m t = rw (inside, ne-eqb (x .sequence) 0 n, there keeper x e l is, lt-ltb (old .sequence) (x .sequence) m) t
+      too-new n m t = rw (inside, ne-eqb (x .sequence) 0 n, ← e, ← is, lt-ltb last (x .sequence) m) t
 
-      pub in-time : {r : ReportAnswer} → x .sequence ≢ 0 → x .sequence ≤ old .sequence → Told r none
+      pub in-time : {r : ReportAnswer} → x .sequence ≢ 0 → x .sequence ≤ last → Told r none
       unfolding reportRefusal
-      in-time n m t = rw (inside, ne-eqb (x .sequence) 0 n, there keeper x e l is, le-ltb (old .sequence) (x .sequence) m) t
+      in-time n m t = rw (inside, ne-eqb (x .sequence) 0 n, ← e, ← is, le-ltb last (x .sequence) m) t
 
 -- ---- the whole call
 

@@ -50,8 +50,7 @@ fn check_slot(keeper: &[u8], x: Report) -> ReportAnswer
     if x.sequence == 0 {
         return refused(refusal::SEQUENCE_ZERO);
     }
-    let slot = slots::slot::slot_at(keeper, i);
-    if slot.sequence < x.sequence {
+    if slots::fields::sequence_at(keeper, i) < x.sequence {
         return refused(refusal::REPORT_AHEAD);
     }
     ReportAnswer::Taken

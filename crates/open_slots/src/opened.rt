@@ -1,7 +1,7 @@
 // The open slots of the keeper.
 use numbers::Numbers;
 use records::layout;
-use room::fields;
+use slots::fields;
 ghost use mathlib.Core.Path.{_≡_};
 ghost use Prim.Native.Nat.{_≤_, _<_};
 ghost use Rattle.ends.specs.Records.{slotAt};

@@ -1,3 +1,2 @@
--- Laws of the keeper's slots: fields in place, and the loops that find the largest sequence and the room.
-pub mod InPlace
+-- Laws of the keeper's slots: the loops that find the largest sequence and the room.
 pub mod RoomLaws

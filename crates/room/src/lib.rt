@@ -1,6 +1,7 @@
 // What a miss asks of the keeper's slots: the largest sequence, and the slot for a new entry.
 use holding::Holding;
 use records::layout;
+use slots::fields;
 ghost use mathlib.Core.Path.{_≡_};
 ghost use Prim.Native.Nat.{_<_, max};
 ghost use Rattle.ends.specs.Records.{slotAt};
@@ -9,8 +10,6 @@ ghost use Rattle.ternary.specs.Sizes.{keySize};
 ghost use Rattle.slots.specs.Slots.{slotCount, slots};
 ghost use Rattle.holding.specs.Holding.{holdingOf};
 ghost use Rattle.room.specs.Room.{firstEmpty};
-
-pub mod fields;
 
 // The larger of two numbers.
 pub fn larger(a: u32, b: u32) -> u32

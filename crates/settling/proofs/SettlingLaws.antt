@@ -18,7 +18,7 @@ module _ (keeper : List ℕ) (x : Report) where
 
   module _ {i : ℕ} (e : i ≡ x .slot) (l : i < slotCount keySize keeper) {old : Slot} (is : old ≡ slotIn keySize keeper i) where
     -- the slot that the report is of
-    pub there : slotAt k (x .slot) ≡ old
+    there : slotAt k (x .slot) ≡ old
     there = rw (← e) (slot-at keySize keeper i l ∙ sym is)
 
     pub taken-current : {y : Slot} {keeper′ : List ℕ} → x .sequence ≡ old .sequence → y ≡ confirmed old (x .hits)

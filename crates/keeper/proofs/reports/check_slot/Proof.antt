@@ -15,16 +15,16 @@ returns-2 c =
 
 returns-3 : tie.Need-returns-3
 returns-3 c =
-    let s = c .before .before .before .before in
+    let s = c .before .before .before in
     let k = s .before .before .before in
-    too-new _ _ (k .before .wide .ensures) (k .if1 .left) (s .slot-at .ensures) (s .before .if2 .left) (c .before .if3 .taken)
+    too-new _ _ (k .before .wide .ensures) (k .if1 .left) (s .sequence-at .ensures) (s .before .if2 .left) (c .before .if3 .taken)
     (c .refused3 .ensures)
 
 returns-4 : tie.Need-returns-4
 returns-4 c =
-    let s = c .before .before .before in
+    let s = c .before .before in
     let k = s .before .before .before in
-    in-time _ _ (k .before .wide .ensures) (k .if1 .left) (s .slot-at .ensures) (s .before .if2 .left) (c .if3 .left) refl
+    in-time _ _ (k .before .wide .ensures) (k .if1 .left) (s .sequence-at .ensures) (s .before .if2 .left) (c .if3 .left) refl
 
 pub check-slot-spec : {M : Type 1} → statement M
 check-slot-spec =

@@ -1,7 +1,8 @@
 -- `open_slots::opened::is_open` meets its contract: the sequence and the mark lie in the slot's bytes. Assumes nothing.
 use borrow.Author.Needs.{needs}
 use borrow.Author.Tests.{eq-eqb, ne-eqb}
-use Rattle.room.proofs.InPlace.{settled-in-place}
+use Rattle.ternary.specs.Sizes.{keySize}
+use Rattle.slots.proofs.InPlace.{settled-in-place}
 use Rattle.open_slots.proofs.opened.is_open.Statement.{statement}
 use Rattle.open_slots.proofs.opened.is_open.Tie as tie
 
@@ -14,7 +15,7 @@ returns-2 c =
     rw (
       ← c .before .before .sequence-at .ensures,
       ne-eqb _ _ (c .before .if1 .left),
-      settled-in-place (k .args .keeper .now) (k .args .i) (k .pre),
+      settled-in-place keySize (k .args .keeper .now) (k .args .i) (k .pre),
     )
 
 pub is-open-spec : {M : Type 1} → statement M

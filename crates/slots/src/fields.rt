@@ -1,10 +1,10 @@
-// Fields of the keeper's slots, read where they lie.
+// Fields of a slot, read where they lie.
 use records::layout;
 ghost use mathlib.Core.Path.{_≡_};
 ghost use Prim.Native.Nat.{_<_};
 ghost use Rattle.ends.specs.Records.{slotAt};
 ghost use Rattle.ternary.specs.Sizes.{keySize};
 ghost use Rattle.slots.specs.Slots.{slotCount, slots};
 
 // The sequence of the i-th slot.
 pub fn sequence_at(keeper: &[u8], i: usize) -> u32
