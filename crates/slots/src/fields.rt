@@ -7,17 +7,17 @@ ghost use Rattle.ternary.specs.Sizes.{keySize};
 ghost use Rattle.slots.specs.Slots.{slotCount, slots};
 
 // The sequence of the i-th slot.
-pub fn sequence_at(keeper: &[u8], i: usize) -> u32
-    requires { ⌜ i < slotCount keySize (now keeper) ⌝ }
-    ensures { λ r. ⌜ r ≡ slotAt (slots keySize (now (keeper .entry))) i .sequence ⌝ }
+pub fn sequence_at(s: &[u8], i: usize) -> u32
+    requires { ⌜ i < slotCount keySize (now s) ⌝ }
+    ensures { λ r. ⌜ r ≡ slotAt (slots keySize (now (s .entry))) i .sequence ⌝ }
 {
-    buffers::be32(keeper, layout::SLOT_SIZE * i + layout::SLOT_SEQUENCE)
+    buffers::be32(s, layout::SLOT_SIZE * i + layout::SLOT_SEQUENCE)
 }
 
 // The hits of the i-th slot.
-pub fn hits_at(keeper: &[u8], i: usize) -> u32
-    requires { ⌜ i < slotCount keySize (now keeper) ⌝ }
-    ensures { λ r. ⌜ r ≡ slotAt (slots keySize (now (keeper .entry))) i .hits ⌝ }
+pub fn hits_at(s: &[u8], i: usize) -> u32
+    requires { ⌜ i < slotCount keySize (now s) ⌝ }
+    ensures { λ r. ⌜ r ≡ slotAt (slots keySize (now (s .entry))) i .hits ⌝ }
 {
-    buffers::be32(keeper, layout::SLOT_SIZE * i + layout::SLOT_HITS)
+    buffers::be32(s, layout::SLOT_SIZE * i + layout::SLOT_HITS)
 }
