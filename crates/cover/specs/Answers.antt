@@ -9,11 +9,12 @@ use lib.ListN.{length}
 use Rattle.model.specs.Policy.{dependents}
 use Rattle.model.specs.Refusals.{shortOutput, noSuchRule}
 use Rattle.ternary.specs.Sizes.{keySize, positions}
+use Rattle.buffers.specs.Parts.{splice}
 use Rattle.records.specs.Rules.{ruleCount, rules}
-use Rattle.checks.specs.Refusals.{orElse, need}
+use Rattle.checks.specs.Refusals.{orElse, need, unlessRefused}
 use Rattle.checks.specs.declared.refusal.Refusal.{Refusal}
 use Rattle.policy.specs.Refusals.{policyRefusal}
-use Rattle.numbers.specs.Written.{numberBytes, outOf}
+use Rattle.numbers.specs.Written.{numberBytes}
 use Rattle.cover.specs.declared.CoverAnswer.{CoverAnswer}
 use Rattle.cover.specs.declared.CoverAnswer.the-variants.{Refused, Count}
 
@@ -36,4 +37,4 @@ answerOf none n = Count n
 -- the answer, and the output after it: the numbers of the cover list at its start, every other byte as it was
 pub record Covered (policy : List ℕ) (number : ℕ) (out : List ℕ) (r : CoverAnswer) (out′ : List ℕ) : Type 0 where
   pub answer : r ≡ answerOf (coverRefusal policy number (length out)) (length (coverList policy number))
-  pub written : out′ ≡ outOf (coverRefusal policy number (length out)) (numberBytes (coverList policy number)) out
+  pub written : out′ ≡ unlessRefused (coverRefusal policy number (length out)) out (splice 0 (numberBytes (coverList policy number)) out)

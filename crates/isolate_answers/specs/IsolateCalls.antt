@@ -5,8 +5,9 @@ use Prim.Native.Nat.{ℕ}
 use lib.ListN.{length}
 use Rattle.model.specs.Isolate.{Isolated, isolate}
 use Rattle.ternary.specs.Sizes.{keySize, positions}
+use Rattle.buffers.specs.Parts.{splice}
 use Rattle.records.specs.Rules.{rules}
-use Rattle.numbers.specs.Written.{outOf}
+use Rattle.checks.specs.Refusals.{unlessRefused}
 use Rattle.answers.specs.declared.structs.WgIsolated.{WgIsolated}
 use Rattle.isolate_answers.specs.Isolate.{patternRefusal, isolatedNumbers}
 
@@ -16,5 +17,5 @@ isolatedIn policy key number = isolate positions (rules keySize policy) key numb
 
 pub record IsolateCall (policy key : List ℕ) (number : ℕ) (out : List ℕ) (r : WgIsolated) (out′ : List ℕ) : Type 0 where
   pub numbers : r ≡ isolatedNumbers (patternRefusal policy key number (length out)) (isolatedIn policy key number)
-  pub written : out′ ≡ outOf (patternRefusal policy key number (length out))
-      (isolatedIn policy key number .value ++ isolatedIn policy key number .mask) out
+  pub written : out′ ≡ unlessRefused (patternRefusal policy key number (length out)) out
+      (splice 0 (isolatedIn policy key number .value ++ isolatedIn policy key number .mask) out)

@@ -9,11 +9,12 @@ use lib.ListN.{length}
 use Rattle.ends.specs.Ends.{openList}
 use Rattle.model.specs.Refusals.{shortOutput}
 use Rattle.ternary.specs.Sizes.{keySize}
-use Rattle.checks.specs.Refusals.{orElse, need}
+use Rattle.buffers.specs.Parts.{splice}
+use Rattle.checks.specs.Refusals.{orElse, need, unlessRefused}
 use Rattle.checks.specs.declared.refusal.Refusal.{Refusal}
 use Rattle.slots.specs.Slots.{slots}
 use Rattle.slots.specs.Refusals.{slotsRefusal}
-use Rattle.numbers.specs.Written.{numberBytes, outOf}
+use Rattle.numbers.specs.Written.{numberBytes}
 use Rattle.open_slots.specs.declared.OpenAnswer.{OpenAnswer}
 use Rattle.open_slots.specs.declared.OpenAnswer.the-variants.{Refused, Count}
 
@@ -33,4 +34,4 @@ answerOf none n = Count n
 -- the answer, and the output after it: the numbers of the open slots at its start, every other byte as it was
 pub record Opened (keeper out : List ℕ) (r : OpenAnswer) (out′ : List ℕ) : Type 0 where
   pub answer : r ≡ answerOf (openRefusal keeper (length out)) (length (openIn keeper))
-  pub written : out′ ≡ outOf (openRefusal keeper (length out)) (numberBytes (openIn keeper)) out
+  pub written : out′ ≡ unlessRefused (openRefusal keeper (length out)) out (splice 0 (numberBytes (openIn keeper)) out)

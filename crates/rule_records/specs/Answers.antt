@@ -9,7 +9,7 @@ use Rattle.buffers.specs.Parts.{chunk}
 use Rattle.records.specs.Layout.{ruleSize}
 use Rattle.records.specs.Rules.{ruleCount}
 use Rattle.checks.specs.declared.refusal.Refusal.{Refusal}
-use Rattle.checks.specs.Refusals.{orElse, need}
+use Rattle.checks.specs.Refusals.{orElse, need, unlessRefused}
 use Rattle.policy.specs.Refusals.{policyRefusal}
 use Rattle.rule_records.specs.declared.RecordAnswer.{RecordAnswer}
 use Rattle.rule_records.specs.declared.RecordAnswer.the-variants.{Refused as RecordRefused, Shown}
@@ -26,11 +26,6 @@ recordOf none = Shown
 unfoldable pub recordAnswer : List ℕ → ℕ → RecordAnswer
 recordAnswer bs number = recordOf (recordRefusal bs number)
 
--- what is shown of these bytes: nothing on a refusal
-abbrev pub shownOf : Option Refusal → List ℕ → List ℕ
-shownOf (some r) bytes = []
-shownOf none bytes = bytes
-
--- the bytes of the record of that number
+-- the bytes of the record of that number: none on a refusal
 unfoldable pub shownRecord : List ℕ → ℕ → List ℕ
-shownRecord bs number = shownOf (recordRefusal bs number) (chunk (ruleSize keySize) bs number)
+shownRecord bs number = unlessRefused (recordRefusal bs number) [] (chunk (ruleSize keySize) bs number)

@@ -3,10 +3,12 @@ use mathlib.Core.List.{List, [], _∷_, _++_}
 use Prim.Native.Nat.{ℕ}
 use lib.ListN.{length}
 use Rattle.model.specs.Small.{row}
+use Rattle.buffers.specs.Parts.{splice}
+use Rattle.checks.specs.Refusals.{unlessRefused}
 use Rattle.best.specs.Answers.{bestAnswer}
 use Rattle.best.specs.declared.BestAnswer.{BestAnswer}
 use Rattle.best.specs.declared.BestAnswer.the-variants.{NoRule, Rule}
-use Rattle.numbers.specs.Written.{numberBytes, outOf}
+use Rattle.numbers.specs.Written.{numberBytes}
 use Rattle.cover.specs.Answers.{coverRefusal, coverList, answerOf}
 use Rattle.cover.specs.declared.CoverAnswer.{CoverAnswer}
 use Rattle.cover.specs.declared.CoverAnswer.the-variants.{Count}
@@ -48,7 +50,7 @@ coverCase i n out =
     let refused = coverRefusal smallBytes i (length output) in
     let list = coverList smallBytes i in
     record {
-      computed = coverIs (answerOf refused (length list)) (outOf refused (numberBytes list) output);
+      computed = coverIs (answerOf refused (length list)) (unlessRefused refused output (splice 0 (numberBytes list) output));
       expected = coverIs (Count n) out;
     }
 

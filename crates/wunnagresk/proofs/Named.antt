@@ -1,13 +1,14 @@
 -- The places that the answers tell are those of the parts that are shown. Assumes nothing.
 use mathlib.Core.Path.{_≡_, refl}
-use mathlib.Core.List.{List}
+use mathlib.Core.List.{List, []}
 use mathlib.Core.Option.{Option, none, some}
 use Prim.Native.Nat.{ℕ}
 use Rattle.ternary.specs.Sizes.{keySize}
 use Rattle.buffers.specs.Parts.{chunk}
 use Rattle.records.specs.Layout.{ruleSize}
 use Rattle.checks.specs.declared.refusal.Refusal.{Refusal}
-use Rattle.rule_records.specs.Answers.{recordRefusal, recordOf, recordAnswer, shownOf, shownRecord}
+use Rattle.checks.specs.Refusals.{unlessRefused}
+use Rattle.rule_records.specs.Answers.{recordRefusal, recordOf, recordAnswer, shownRecord}
 use Rattle.decision.specs.Answers.{partOf, showAnswer, shownPart}
 use Rattle.decision.specs.declared.ShowAnswer.{ShowAnswer}
 use Rattle.decision.specs.declared.ShowAnswer.the-variants.{Refused, NoRule, FromTable, FromPolicy}
@@ -21,7 +22,7 @@ of-answer policy table (FromTable i) = refl
 of-answer policy table (FromPolicy r) = refl
 
 of-record : (policy : List ℕ) (number : ℕ) (o : Option Refusal)
-    → recordAt policy (recordNumbers (recordOf o) number) ≡ shownOf o (chunk (ruleSize keySize) policy number)
+    → recordAt policy (recordNumbers (recordOf o) number) ≡ unlessRefused o [] (chunk (ruleSize keySize) policy number)
 of-record policy number (some r) = refl
 of-record policy number none = refl
 

@@ -6,9 +6,10 @@ use lib.ListN.{length}
 use Rattle.ends.specs.Ends.{missWrite}
 use Rattle.ends.specs.Trace.{missOutcome}
 use Rattle.ternary.specs.Sizes.{keySize}
+use Rattle.buffers.specs.Parts.{splice}
 use Rattle.slots.specs.Slots.{slots}
 use Rattle.messages.specs.Reports.{decodeReport}
-use Rattle.numbers.specs.Written.{numberBytes, outOf}
+use Rattle.numbers.specs.Written.{numberBytes}
 use Rattle.checks.specs.Refusals.{unlessRefused}
 use Rattle.settling.specs.Settling.{reportBytes}
 use Rattle.keeper.specs.Reports.{reportRefused, reportAnswer}
@@ -40,4 +41,4 @@ pub record ReportCall (keeper m : List ℕ) (r : WgDone) (keeper′ : List ℕ) 
 
 pub record OpenCall (keeper out : List ℕ) (r : WgCount) (out′ : List ℕ) : Type 0 where
   pub numbers : r ≡ openedNumbers (openOf (openRefusal keeper (length out)) (length (openIn keeper)))
-  pub written : out′ ≡ outOf (openRefusal keeper (length out)) (numberBytes (openIn keeper)) out
+  pub written : out′ ≡ unlessRefused (openRefusal keeper (length out)) out (splice 0 (numberBytes (openIn keeper)) out)

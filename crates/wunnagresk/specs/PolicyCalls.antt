@@ -3,11 +3,13 @@ use mathlib.Core.Path.{_≡_}
 use mathlib.Core.List.{List}
 use Prim.Native.Nat.{ℕ}
 use lib.ListN.{length}
-use Rattle.numbers.specs.Written.{numberBytes, outOf}
+use Rattle.buffers.specs.Parts.{splice}
+use Rattle.checks.specs.Refusals.{unlessRefused}
+use Rattle.numbers.specs.Written.{numberBytes}
 use Rattle.cover.specs.Answers.{coverRefusal, coverList, answerOf}
 use Rattle.policy_answers.specs.Policy.{coveredNumbers}
 use Rattle.answers.specs.declared.structs.WgCount.{WgCount}
 
 pub record CoverCall (policy : List ℕ) (number : ℕ) (out : List ℕ) (r : WgCount) (out′ : List ℕ) : Type 0 where
   pub numbers : r ≡ coveredNumbers (answerOf (coverRefusal policy number (length out)) (length (coverList policy number)))
-  pub written : out′ ≡ outOf (coverRefusal policy number (length out)) (numberBytes (coverList policy number)) out
+  pub written : out′ ≡ unlessRefused (coverRefusal policy number (length out)) out (splice 0 (numberBytes (coverList policy number)) out)
