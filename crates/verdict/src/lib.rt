@@ -16,7 +16,7 @@ ghost use Rattle.decisions.specs.Decided.{DecidedAs};
 ghost use Rattle.verdict.specs.Decisions.{Fine, RuleFor, placeMiss, missWith, ruleMiss, missIn};
 
 // The decision that the rule goes, isolated for the key, to the slot for a new entry, under that sequence.
-fn place_entry(
+fn new_entry(
     policy: &[u8],
     key: &[u8],
     keeper: &[u8],
@@ -56,7 +56,7 @@ fn fresh_entry(policy: &[u8], key: &[u8], keeper: &[u8], number: u16, action: u1
     if last == layout::TOP {
         return decisions::no_write(kinds::USED_UP, action, number);
     }
-    place_entry(policy, key, keeper, number, action, last + 1)
+    new_entry(policy, key, keeper, number, action, last + 1)
 }
 
 // The decision for a key whose best rule has that number and action.

@@ -11,14 +11,14 @@ returns c =
     let k = l .before .before .before .before in
     used-up _ _ _ (k .pre .0) (k .pre .1) (l .largest-sequence .ensures) (c .before .if1 .taken) (c .no-write .ensures)
 
-place-entry-requires : tie.Need-place-entry-requires
-place-entry-requires c κs =
+new-entry-requires : tie.Need-new-entry-requires
+new-entry-requires c κs =
     let l = c .before in
     let k = l .before .before .before .before in
     (k .pre .0, k .pre .1, omega (arith, l .largest-sequence .ensures))
 
 returns-2 : tie.Need-returns-2
-returns-2 c = not-used-up _ _ _ (c .before .before .largest-sequence .ensures) (c .before .if1 .left) (c .place-entry .ensures)
+returns-2 c = not-used-up _ _ _ (c .before .before .largest-sequence .ensures) (c .before .if1 .left) (c .new-entry .ensures)
 
 pub fresh-entry-spec : {M : Type 1} → statement M
 fresh-entry-spec =
@@ -28,5 +28,5 @@ fresh-entry-spec =
     (λ c. search needs)
     returns
     (λ c. search needs)
-    place-entry-requires
+    new-entry-requires
     returns-2)

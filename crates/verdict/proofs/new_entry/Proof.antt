@@ -1,10 +1,10 @@
--- `verdict::place_entry` meets its contract: the isolated rule goes to the room, under the sequence. Assumes nothing.
+-- `verdict::new_entry` meets its contract: the isolated rule goes to the room, under the sequence. Assumes nothing.
 use borrow.Author.Needs.{needs}
 use mathlib.Core.Path.{refl}
 use native.Mathlib.Omega.{arith}
 use Rattle.verdict.proofs.DecisionLaws.{room-inside, place-decided}
-use Rattle.verdict.proofs.place_entry.Statement.{statement}
-use Rattle.verdict.proofs.place_entry.Tie as tie
+use Rattle.verdict.proofs.new_entry.Statement.{statement}
+use Rattle.verdict.proofs.new_entry.Tie as tie
 
 isolate-best-requires : tie.Need-isolate-best-requires
 isolate-best-requires c κs = rw (c .wide .ensures) (c .before .before .before .before .pre .0 .ready)
@@ -30,8 +30,8 @@ returns c =
     place-decided _ _ _ (k .pre .0) (k .pre .1) (k .pre .2) (i .before .wide .ensures) (i .isolate-best .ensures) (r .room .ensures)
     (c .placed-outcome .ensures) refl
 
-pub place-entry-spec : {M : Type 1} → statement M
-place-entry-spec =
+pub new-entry-spec : {M : Type 1} → statement M
+new-entry-spec =
     tie.close
     (tie.spec
     (λ c. search needs)
