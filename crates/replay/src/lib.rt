@@ -5,6 +5,11 @@ use records::layout;
 ghost use mathlib.Core.Path.{_≡_};
 ghost use Rattle.replay.specs.Files.{fileAnswer};
 
+// The most bytes that a policy's and a trace's file may have: 32,768 and 65,536.
+pub const MOST_POLICY_BYTES: usize = layout::RULE_SIZE * layout::MOST_RULES;
+
+pub const MOST_TRACE_BYTES: usize = layout::TRACE_SIZE * layout::MOST_PACKETS;
+
 // A refusal, or the number of slots.
 pub enum FileAnswer {
     Refused(Refusal),
@@ -22,13 +27,13 @@ pub fn file_answer(slots: &[u8], policy: &[u8], trace: &[u8]) -> FileAnswer
             place: 0,
         });
     }
-    if policy.len() > layout::RULE_SIZE * layout::MOST_RULES {
+    if policy.len() > MOST_POLICY_BYTES {
         return FileAnswer::Refused(Refusal {
             number: refusal::TOO_MANY,
             place: 0,
         });
     }
-    if trace.len() > layout::TRACE_SIZE * layout::MOST_PACKETS {
+    if trace.len() > MOST_TRACE_BYTES {
         return FileAnswer::Refused(Refusal {
             number: refusal::TOO_MANY,
             place: 0,

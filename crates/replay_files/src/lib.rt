@@ -1,6 +1,5 @@
 // The program: reads slots.txt, policy.bin and trace.bin, and prints what they come to.
 use libc::STDOUT_FILENO;
-use records::layout;
 ghost use Prim.Native.Nat.{_≤_};
 ghost use lib.ListN.{length};
 ghost use Rattle.printed.specs.Text.{mostText};
@@ -9,9 +8,9 @@ ghost use Rattle.io.specs.Counts.{Counts};
 // One byte more than each file may have: a longer file is seen to be longer, and an endless one is read no further.
 const SLOTS_ROOM: usize = slots_text::MOST + 1;
 
-const POLICY_ROOM: usize = layout::RULE_SIZE * layout::MOST_RULES + 1;
+const POLICY_ROOM: usize = replay::MOST_POLICY_BYTES + 1;
 
-const TRACE_ROOM: usize = layout::TRACE_SIZE * layout::MOST_PACKETS + 1;
+const TRACE_ROOM: usize = replay::MOST_TRACE_BYTES + 1;
 
 // What one read gave: whether it worked, and how many bytes came, 0 at the file's end.
 struct Got {

@@ -35,8 +35,6 @@ file-answer-spec =
     (tie.spec
     (λ c. search needs)
     returns
-    (λ c. search needs)
     returns-2
-    (λ c. search needs)
     returns-3
     returns-4)
