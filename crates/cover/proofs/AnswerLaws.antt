@@ -1,5 +1,5 @@
 -- What the tests of the cover list's call come to: each way out of it. Assumes nothing.
-use Prim.Native.Nat.{ℕ, _*_, _≤_, _<_}
+use Prim.Native.Nat.{ℕ, _≤_, _<_}
 use mathlib.Core.Path.{_≡_, sym, _∙_}
 use mathlib.Core.List.{List}
 use mathlib.Core.Option.{none, some}
@@ -7,9 +7,8 @@ use native.Mathlib.Omega.{arith}
 use lib.ListN.{length, take}
 use borrow.Author.Tests.{lt-ltb, le-ltb}
 use Rattle.model.specs.Policy.{dependents, before}
-use Rattle.model.specs.Refusals.{shortOutput, noSuchRule}
+use Rattle.model.specs.Refusals.{noSuchRule}
 use Rattle.ternary.specs.Sizes.{keySize}
-use Rattle.buffers.specs.Parts.{splice}
 use Rattle.records.specs.Layout.{mostRules}
 use Rattle.records.specs.Rules.{ruleCount, rules}
 use Rattle.records.proofs.RuleLaws.{rule-count}
@@ -21,11 +20,13 @@ use Rattle.policy.proofs.CheckLaws.{check-refused, check-passed, check-count, p
 use Rattle.policy.specs.declared.PolicyAnswer.{PolicyAnswer}
 use Rattle.policy.specs.declared.PolicyAnswer.the-variants.{Refused as Bad, Rules}
 use Rattle.numbers.specs.Numbers.{Lists}
-use Rattle.numbers.specs.Written.{numberBytes}
-use Rattle.numbers.proofs.GatherLaws.{lists-long, Gathered, gathered-few}
+use Rattle.numbers.specs.Answers.{listRefusal, Answered}
+use Rattle.numbers.specs.declared.ListAnswer.{ListAnswer}
+use Rattle.numbers.specs.declared.ListAnswer.the-variants.{Refused}
+use Rattle.numbers.proofs.GatherLaws.{lists-few}
+use Rattle.numbers.proofs.AnswerLaws.{answered-as}
 use Rattle.cover.specs.Depends.{dependsOn}
 use Rattle.cover.specs.Answers.{coverList, coverRefusal, Covered}
-use Rattle.cover.specs.declared.CoverAnswer.the-variants.{Refused, Count}
 
 -- ---- the policy's check
 
@@ -42,14 +43,11 @@ taken-of {policy} {n} e t =
 
 -- ---- the list is no longer than the policy
 
-gathered : (policy : List ℕ) (number : ℕ) {items : List ℕ} {count : ℕ} → Lists items count (coverList policy number)
-    → Gathered (dependsOn (rules keySize policy) number) (before (rules keySize policy)) (length (rules keySize policy)) items count
-unfolding dependents
-gathered policy number is = record { so-far = is }
-
 pub cover-few : (policy : List ℕ) (number : ℕ) {items : List ℕ} {count : ℕ}
     → Lists items count (coverList policy number) → count ≤ ruleCount keySize policy
-cover-few policy number is = omega (arith, gathered-few _ _ (gathered policy number is), rule-count keySize policy)
+unfolding dependents
+cover-few policy number is =
+    omega (arith, lists-few (dependsOn (rules keySize policy) number) (before (rules keySize policy)) is, rule-count keySize policy)
 
 -- ---- each way out
 
@@ -66,20 +64,11 @@ module _ (policy : List ℕ) (number : ℕ) (out : List ℕ) where
     unfolding coverRefusal
     refused-number l = refused-as (rw (is .fine, le-ltb number (ruleCount keySize policy) (omega (arith, is .counted))))
 
-    module _ {items : List ℕ} {count : ℕ} (low : number < n) (list : Lists items count (coverList policy number)) where
-      long : length (coverList policy number) ≡ count
-      long = lists-long (coverList policy number) list
-
-      pub refused-short : length out < 2 * count → Covered policy number out (Refused (refusal shortOutput 0)) out
-      unfolding coverRefusal
-      refused-short l =
-          refused-as (rw (is .fine, lt-ltb number (ruleCount keySize policy) (omega (arith, is .counted)), long, lt-ltb (length out) (2 * count) l))
-
-      pub covered-count : {out′ : List ℕ} → 2 * count ≤ length out → out′ ≡ splice 0 (numberBytes (take count items)) out
-          → Covered policy number out (Count count) out′
-      unfolding coverRefusal
-      covered-count l e =
-          let t : coverRefusal policy number (length out) ≡ none =
-          rw (is .fine, lt-ltb number (ruleCount keySize policy) (omega (arith, is .counted)), long, le-ltb (length out) (2 * count) l)
-          in
-          record { answer = rw (t, long); written = rw (t, ← list .same) e }
+    pub covered-list : {items : List ℕ} {count : ℕ} {r : ListAnswer} {out′ : List ℕ} → number < n → Lists items count (coverList policy number)
+        → Answered (take count items) out r out′ → Covered policy number out r out′
+    unfolding coverRefusal
+    covered-list low list a =
+        let t : coverRefusal policy number (length out) ≡ listRefusal (coverList policy number) (length out) =
+        rw (is .fine, lt-ltb number (ruleCount keySize policy) (omega (arith, is .counted)))
+        in
+        let told = answered-as (coverList policy number) out list a in record { answer = rw t (told .answer); written = rw t (told .written) }

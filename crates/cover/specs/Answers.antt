@@ -1,13 +1,12 @@
 -- What the cover list's call answers, and what it leaves in the output. Assumes nothing.
 use mathlib.Core.Path.{_≡_}
-use mathlib.Core.Bool.{not}
 use mathlib.Core.List.{List}
-use mathlib.Core.Option.{Option, none, some}
-use Prim.Native.Nat.{ℕ, _*_}
+use mathlib.Core.Option.{Option}
+use Prim.Native.Nat.{ℕ}
 use lib.Dec.{ltb}
 use lib.ListN.{length}
 use Rattle.model.specs.Policy.{dependents}
-use Rattle.model.specs.Refusals.{shortOutput, noSuchRule}
+use Rattle.model.specs.Refusals.{noSuchRule}
 use Rattle.ternary.specs.Sizes.{keySize, positions}
 use Rattle.buffers.specs.Parts.{splice}
 use Rattle.records.specs.Rules.{ruleCount, rules}
@@ -15,8 +14,8 @@ use Rattle.checks.specs.Refusals.{orElse, need, unlessRefused}
 use Rattle.checks.specs.declared.refusal.Refusal.{Refusal}
 use Rattle.policy.specs.Refusals.{policyRefusal}
 use Rattle.numbers.specs.Written.{numberBytes}
-use Rattle.cover.specs.declared.CoverAnswer.{CoverAnswer}
-use Rattle.cover.specs.declared.CoverAnswer.the-variants.{Refused, Count}
+use Rattle.numbers.specs.Answers.{listRefusal, answerOf}
+use Rattle.numbers.specs.declared.ListAnswer.{ListAnswer}
 
 -- the dependents of the rule of that number, which are its cover list
 abbrev pub coverList : List ℕ → ℕ → List ℕ
@@ -25,16 +24,9 @@ coverList policy number = dependents positions (rules keySize policy) number
 -- policy 1, 2, 3; 6; 5, where the output has so much room
 unfoldable pub coverRefusal : List ℕ → ℕ → ℕ → Option Refusal
 coverRefusal policy number room =
-    orElse (policyRefusal policy)
-    (need (ltb number (ruleCount keySize policy)) noSuchRule
-    (need (not (ltb room (2 * length (coverList policy number)))) shortOutput none))
-
--- the refusal, or how many numbers were written
-abbrev pub answerOf : Option Refusal → ℕ → CoverAnswer
-answerOf (some r) n = Refused r
-answerOf none n = Count n
+    orElse (policyRefusal policy) (need (ltb number (ruleCount keySize policy)) noSuchRule (listRefusal (coverList policy number) room))
 
 -- the answer, and the output after it: the numbers of the cover list at its start, every other byte as it was
-pub record Covered (policy : List ℕ) (number : ℕ) (out : List ℕ) (r : CoverAnswer) (out′ : List ℕ) : Type 0 where
+pub record Covered (policy : List ℕ) (number : ℕ) (out : List ℕ) (r : ListAnswer) (out′ : List ℕ) : Type 0 where
   pub answer : r ≡ answerOf (coverRefusal policy number (length out)) (length (coverList policy number))
   pub written : out′ ≡ unlessRefused (coverRefusal policy number (length out)) out (splice 0 (numberBytes (coverList policy number)) out)

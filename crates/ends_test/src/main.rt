@@ -111,13 +111,13 @@ fn say_report(answer: keeper::ReportAnswer) -> usize {
     }
 }
 
-fn say_open(answer: open_slots::OpenAnswer) -> usize {
+fn say_open(answer: numbers::ListAnswer) -> usize {
     match answer {
-        open_slots::OpenAnswer::Refused(r) => {
+        numbers::ListAnswer::Refused(r) => {
             say_refused(r);
             0
         }
-        open_slots::OpenAnswer::Count(n) => {
+        numbers::ListAnswer::Count(n) => {
             say_word(b" open ", n);
             twice(n)
         }

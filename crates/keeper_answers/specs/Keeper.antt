@@ -3,8 +3,8 @@ use Rattle.carrying.specs.declared.MissAnswer.{MissAnswer}
 use Rattle.carrying.specs.declared.MissAnswer.the-variants.{Refused as MissRefused, Outcome}
 use Rattle.keeper.specs.declared.ReportAnswer.{ReportAnswer}
 use Rattle.keeper.specs.declared.ReportAnswer.the-variants.{Refused as ReportRefused, Taken}
-use Rattle.open_slots.specs.declared.OpenAnswer.{OpenAnswer}
-use Rattle.open_slots.specs.declared.OpenAnswer.the-variants.{Refused as OpenRefused, Count}
+use Rattle.numbers.specs.declared.ListAnswer.{ListAnswer}
+use Rattle.numbers.specs.declared.ListAnswer.the-variants.{Refused as OpenRefused, Count}
 use Rattle.answers.specs.declared.structs.WgDone.{WgDone}
 use Rattle.answers.specs.declared.structs.WgCount.{WgCount}
 use Rattle.answers.specs.declared.structs.WgOutcome.{WgOutcome}
@@ -29,6 +29,6 @@ reportedNumbers (ReportRefused r) = record { refusal = r .number; place = r .pla
 reportedNumbers Taken = record { refusal = 0; place = 0 }
 
 -- how many numbers were written
-abbrev pub openedNumbers : OpenAnswer → WgCount
+abbrev pub openedNumbers : ListAnswer → WgCount
 openedNumbers (OpenRefused r) = record { refusal = r .number; place = r .place; count = 0 }
 openedNumbers (Count n) = record { refusal = 0; place = 0; count = n }

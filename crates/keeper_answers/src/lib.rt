@@ -4,7 +4,7 @@ use answers::structs::WgDone;
 use answers::structs::WgOutcome;
 use carrying::MissAnswer;
 use keeper::ReportAnswer;
-use open_slots::OpenAnswer;
+use numbers::ListAnswer;
 ghost use mathlib.Core.Path.{_≡_};
 ghost use Rattle.keeper_answers.specs.Keeper.{outcomeNumbers, reportedNumbers, openedNumbers};
 
@@ -51,16 +51,16 @@ pub fn reported_numbers(answer: ReportAnswer) -> WgDone
 }
 
 // Of the open list.
-pub fn opened_numbers(answer: OpenAnswer) -> WgCount
+pub fn opened_numbers(answer: ListAnswer) -> WgCount
     ensures { λ r. ⌜ r ≡ openedNumbers answer ⌝ }
 {
     match answer {
-        OpenAnswer::Refused(refusal) => WgCount {
+        ListAnswer::Refused(refusal) => WgCount {
             refusal: refusal.number,
             place: refusal.place,
             count: 0,
         },
-        OpenAnswer::Count(count) => WgCount {
+        ListAnswer::Count(count) => WgCount {
             refusal: 0,
             place: 0,
             count,

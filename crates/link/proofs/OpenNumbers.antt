@@ -12,9 +12,10 @@ use Rattle.buffers.specs.Numbers.{be}
 use Rattle.buffers.specs.Parts.{part, splice}
 use Rattle.records.specs.Layout.{mostSlots}
 use Rattle.checks.specs.declared.refusal.Refusal.{Refusal}
+use Rattle.numbers.specs.Answers.{answerOf}
+use Rattle.numbers.specs.declared.ListAnswer.the-variants.{Count}
 use Rattle.numbers.proofs.ByteLaws.{number-at}
-use Rattle.open_slots.specs.Opens.{openIn, openRefusal, answerOf, Opened}
-use Rattle.open_slots.specs.declared.OpenAnswer.the-variants.{Count}
+use Rattle.open_slots.specs.Opens.{openIn, openRefusal, Opened}
 
 -- ---- what an accepted open call says
 

@@ -40,7 +40,7 @@ use Rattle.received.specs.Writes.{writeCallRefusal}
 use Rattle.received.proofs.ModelLaws.{taken-here, good-lookup}
 use Rattle.keeper.specs.Reports.{numbered, reportRefused}
 use Rattle.open_slots.specs.Opens.{openIn, openRefusal, Opened}
-use Rattle.open_slots.specs.declared.OpenAnswer.the-variants.{Count}
+use Rattle.numbers.specs.declared.ListAnswer.the-variants.{Count}
 use Rattle.keeper.proofs.ReportLaws.{report-meaning}
 use Rattle.open_slots.proofs.OpenLaws.{list-few}
 use Rattle.decisions.specs.Decided.{deciding}

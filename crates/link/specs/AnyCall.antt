@@ -14,7 +14,7 @@ use Rattle.received.specs.declared.write.WriteAnswer.{WriteAnswer}
 use Rattle.keeper.specs.Reports.{Reported}
 use Rattle.open_slots.specs.Opens.{Opened}
 use Rattle.keeper.specs.declared.ReportAnswer.{ReportAnswer}
-use Rattle.open_slots.specs.declared.OpenAnswer.{OpenAnswer}
+use Rattle.numbers.specs.declared.ListAnswer.{ListAnswer}
 use Rattle.carrying.specs.declared.MissAnswer.{MissAnswer}
 use Rattle.miss.specs.Answers.{Missed}
 use Rattle.trace.specs.Runs.{RunIs}
@@ -29,7 +29,7 @@ pub record AnyCall (s : State) : Type 0 where
   pub misses : (policy key out : List ℕ) → Bytes policy
       → (r : MissAnswer) × (keeper′ : List ℕ) × (out′ : List ℕ) × Missed policy key (s .keeper) out r keeper′ out′
   pub reports : (m : List ℕ) → Bytes m → (r : ReportAnswer) × (keeper′ : List ℕ) × Reported (s .keeper) m r keeper′
-  pub opens : (out : List ℕ) → (r : OpenAnswer) × (out′ : List ℕ) × Opened (s .keeper) out r out′
+  pub opens : (out : List ℕ) → (r : ListAnswer) × (out′ : List ℕ) × Opened (s .keeper) out r out′
   pub runs : (policy trace out : List ℕ) (t : Totals) → Bytes policy
       → (r : Ran) × (table′ : List ℕ) × (keeper′ : List ℕ) × (out′ : List ℕ) × RunIs policy trace (s .table) (s .keeper) out t r table′ keeper′ out′
 

@@ -20,7 +20,7 @@ use Rattle.received.specs.declared.write.WriteAnswer.the-variants.{Refused as W
 use Rattle.keeper.specs.Reports.{reportRefused, Reported}
 use Rattle.open_slots.specs.Opens.{Opened}
 use Rattle.keeper.specs.declared.ReportAnswer.{ReportAnswer}
-use Rattle.open_slots.specs.declared.OpenAnswer.{OpenAnswer}
+use Rattle.numbers.specs.declared.ListAnswer.{ListAnswer}
 use Rattle.outcomes.specs.Outcomes.{givesWrite}
 use Rattle.carrying.specs.declared.MissAnswer.{MissAnswer}
 use Rattle.carrying.specs.declared.MissAnswer.the-variants.{Refused as MissRefused, Outcome}
@@ -53,7 +53,7 @@ pub data Call : Type 0 where
   write : (message out : List ℕ) → WriteAnswer → (table out′ : List ℕ) → Call
   miss : (policy key out : List ℕ) → MissAnswer → (keeper out′ : List ℕ) → Call
   report : (message : List ℕ) → ReportAnswer → (keeper : List ℕ) → Call
-  openSlots : (out : List ℕ) → OpenAnswer → (out′ : List ℕ) → Call
+  openSlots : (out : List ℕ) → ListAnswer → (out′ : List ℕ) → Call
   run : (policy trace out : List ℕ) → Totals → Ran → (table keeper out′ : List ℕ) → Call
 
 -- ---- one call

@@ -22,7 +22,7 @@ use Rattle.table.specs.declared.lookup.LookupAnswer.the-variants.{Refused, Miss
 use Rattle.received.specs.Writes.{writeCallRefusal}
 use Rattle.keeper.specs.Reports.{reportRefused}
 use Rattle.open_slots.specs.Opens.{openRefusal, Opened}
-use Rattle.open_slots.specs.declared.OpenAnswer.the-variants.{Count}
+use Rattle.numbers.specs.declared.ListAnswer.the-variants.{Count}
 use Rattle.link.specs.Calls.{State, clearedEnds, Call, Sequence, Throughout}
 
 -- a lookup's answer is a miss, or the best rule's number and that rule's action

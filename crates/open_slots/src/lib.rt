@@ -1,33 +1,21 @@
 // The keeper lists its open slots.
 use checks::refusal;
 use checks::refusal::Refusal;
+use numbers::ListAnswer;
 ghost use Rattle.open_slots.specs.Opens.{Opened};
 
 pub mod opened;
 
-// A refusal, or how many numbers were written.
-pub enum OpenAnswer {
-    Refused(Refusal),
-    Count(usize),
-}
-
 // Writes the numbers of the open slots to the start of `out`, two bytes each, rising: refusal 4 of the keeper, then 5; a refusal writes nothing.
-pub fn open_list(keeper: &[u8], out: &mut [u8]) -> OpenAnswer
+pub fn open_list(keeper: &[u8], out: &mut [u8]) -> ListAnswer
     ensures { λ r. ⌜ Opened (now (keeper .entry)) (now (out .entry)) r (now (out .exit)) ⌝ }
 {
     if !slots::buffer::slots_fit(keeper) {
-        return OpenAnswer::Refused(Refusal {
+        return ListAnswer::Refused(Refusal {
             number: refusal::BAD_SLOTS,
             place: 0,
         });
     }
     let list = opened::open_slots(keeper);
-    if out.len() < 2 * list.count {
-        return OpenAnswer::Refused(Refusal {
-            number: refusal::SHORT_OUTPUT,
-            place: 0,
-        });
-    }
-    numbers::put_numbers(list, out);
-    OpenAnswer::Count(list.count)
+    numbers::list_answer(list, out)
 }

@@ -4,8 +4,8 @@ use Rattle.policy.specs.declared.PolicyAnswer.{PolicyAnswer}
 use Rattle.policy.specs.declared.PolicyAnswer.the-variants.{Refused as PolicyRefused, Rules}
 use Rattle.best.specs.declared.BestAnswer.{BestAnswer}
 use Rattle.best.specs.declared.BestAnswer.the-variants.{Refused as BestRefused, NoRule, Rule}
-use Rattle.cover.specs.declared.CoverAnswer.{CoverAnswer}
-use Rattle.cover.specs.declared.CoverAnswer.the-variants.{Refused as CoverRefused, Count}
+use Rattle.numbers.specs.declared.ListAnswer.{ListAnswer}
+use Rattle.numbers.specs.declared.ListAnswer.the-variants.{Refused as CoverRefused, Count}
 use Rattle.answers.specs.declared.structs.WgCount.{WgCount}
 use Rattle.answers.specs.declared.structs.WgBestAnswer.{WgBestAnswer}
 
@@ -21,6 +21,6 @@ bestNumbers NoRule = record { refusal = 0; place = 0; found = 0; rule = nothing;
 bestNumbers (Rule rule action) = record { refusal = 0; place = 0; found = 1; rule = rule; action = action }
 
 -- how many numbers were written
-abbrev pub coveredNumbers : CoverAnswer → WgCount
+abbrev pub coveredNumbers : ListAnswer → WgCount
 coveredNumbers (CoverRefused r) = record { refusal = r .number; place = r .place; count = 0 }
 coveredNumbers (Count n) = record { refusal = 0; place = 0; count = n }

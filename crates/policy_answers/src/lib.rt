@@ -2,7 +2,7 @@
 use answers::structs::WgBestAnswer;
 use answers::structs::WgCount;
 use best::BestAnswer;
-use cover::CoverAnswer;
+use numbers::ListAnswer;
 use outcomes::kinds;
 use policy::PolicyAnswer;
 ghost use mathlib.Core.Path.{_≡_};
@@ -56,16 +56,16 @@ pub fn best_numbers(answer: BestAnswer) -> WgBestAnswer
 }
 
 // Of the cover list.
-pub fn covered_numbers(answer: CoverAnswer) -> WgCount
+pub fn covered_numbers(answer: ListAnswer) -> WgCount
     ensures { λ r. ⌜ r ≡ coveredNumbers answer ⌝ }
 {
     match answer {
-        CoverAnswer::Refused(refusal) => WgCount {
+        ListAnswer::Refused(refusal) => WgCount {
             refusal: refusal.number,
             place: refusal.place,
             count: 0,
         },
-        CoverAnswer::Count(count) => WgCount {
+        ListAnswer::Count(count) => WgCount {
             refusal: 0,
             place: 0,
             count,

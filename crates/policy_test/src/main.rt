@@ -54,13 +54,13 @@ fn say_record(answer: rule_records::RecordAnswer, record: &[u8]) {
 }
 
 // Gives how many numbers the output has.
-fn say_cover(answer: cover::CoverAnswer) -> usize {
+fn say_cover(answer: numbers::ListAnswer) -> usize {
     match answer {
-        cover::CoverAnswer::Refused(r) => {
+        numbers::ListAnswer::Refused(r) => {
             say_refused(r);
             0
         }
-        cover::CoverAnswer::Count(n) => {
+        numbers::ListAnswer::Count(n) => {
             say(b" covers");
             n
         }

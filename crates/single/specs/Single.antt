@@ -13,7 +13,7 @@ use Rattle.isolate.specs.declared.IsolateAnswer.{IsolateAnswer}
 use Rattle.decision.specs.Answers.{showAnswer, shownPart}
 use Rattle.decision.specs.declared.ShowAnswer.{ShowAnswer}
 use Rattle.cover.specs.Answers.{Covered}
-use Rattle.cover.specs.declared.CoverAnswer.{CoverAnswer}
+use Rattle.numbers.specs.declared.ListAnswer.{ListAnswer}
 use Rattle.table.specs.Lookups.{LookedUp}
 use Rattle.table.specs.declared.lookup.LookupAnswer.{LookupAnswer}
 use Rattle.received.specs.Writes.{Received}
@@ -21,7 +21,6 @@ use Rattle.received.specs.declared.write.WriteAnswer.{WriteAnswer}
 use Rattle.keeper.specs.Reports.{Reported}
 use Rattle.open_slots.specs.Opens.{Opened}
 use Rattle.keeper.specs.declared.ReportAnswer.{ReportAnswer}
-use Rattle.open_slots.specs.declared.OpenAnswer.{OpenAnswer}
 use Rattle.carrying.specs.declared.MissAnswer.{MissAnswer}
 use Rattle.miss.specs.Answers.{Missed}
 use Rattle.ends.specs.Records.{Totals}
@@ -70,13 +69,13 @@ pub record EachSingle : Type 0 where
   pub isolates : Single (λ (a : Buffer × Buffer × ℕ) (x : IsolateAnswer). x ≡ isolateAnswer (a .0) (a .1) (a .2))
   pub shows : Single (λ (a : Buffer × Buffer × Buffer) (x : Buffer). x ≡ shownPart (a .0) (a .1) (a .2))
   pub show-answers : Single (λ (a : Buffer × Buffer × Buffer) (x : ShowAnswer). x ≡ showAnswer (a .0) (a .1) (a .2))
-  pub covers : Single (λ (a : Buffer × ℕ × Buffer) (x : CoverAnswer × Buffer). Covered (a .0) (a .1) (a .2) (x .0) (x .1))
+  pub covers : Single (λ (a : Buffer × ℕ × Buffer) (x : ListAnswer × Buffer). Covered (a .0) (a .1) (a .2) (x .0) (x .1))
   pub lookups : Single (λ (a : Buffer × Buffer × Buffer) (x : LookupAnswer × Buffer × Buffer). LookedUp (a .0) (a .1) (a .2) (x .0) (x .1) (x .2))
   pub writes : Single (λ (a : Buffer × Buffer × Buffer) (x : WriteAnswer × Buffer × Buffer). Received (a .0) (a .1) (a .2) (x .0) (x .1) (x .2))
   pub misses : Single (λ (a : Buffer × Buffer × Buffer × Buffer) (x : MissAnswer × Buffer × Buffer).
       Missed (a .0) (a .1) (a .2) (a .3) (x .0) (x .1) (x .2))
   pub reports : Single (λ (a : Buffer × Buffer) (x : ReportAnswer × Buffer). Reported (a .0) (a .1) (x .0) (x .1))
-  pub opens : Single (λ (a : Buffer × Buffer) (x : OpenAnswer × Buffer). Opened (a .0) (a .1) (x .0) (x .1))
+  pub opens : Single (λ (a : Buffer × Buffer) (x : ListAnswer × Buffer). Opened (a .0) (a .1) (x .0) (x .1))
   -- the answer, the totals and every byte of the three buffers, which `gathered` puts together
   pub runs : (policy trace table keeper out : Buffer) (t : Totals) (r r′ : Ran) (ta ke ou ta′ ke′ ou′ : Buffer)
       → RunIs policy trace table keeper out t r ta ke ou → RunIs policy trace table keeper out t r′ ta′ ke′ ou′

@@ -9,9 +9,10 @@ use Rattle.best.specs.Answers.{bestAnswer}
 use Rattle.best.specs.declared.BestAnswer.{BestAnswer}
 use Rattle.best.specs.declared.BestAnswer.the-variants.{NoRule, Rule}
 use Rattle.numbers.specs.Written.{numberBytes}
-use Rattle.cover.specs.Answers.{coverRefusal, coverList, answerOf}
-use Rattle.cover.specs.declared.CoverAnswer.{CoverAnswer}
-use Rattle.cover.specs.declared.CoverAnswer.the-variants.{Count}
+use Rattle.numbers.specs.Answers.{answerOf}
+use Rattle.numbers.specs.declared.ListAnswer.{ListAnswer}
+use Rattle.numbers.specs.declared.ListAnswer.the-variants.{Count}
+use Rattle.cover.specs.Answers.{coverRefusal, coverList}
 use Rattle.isolate.specs.Answers.{isolateAnswer}
 use Rattle.isolate.specs.declared.IsolateAnswer.{IsolateAnswer}
 use Rattle.isolate.specs.declared.Said.the-variants.{Isolated}
@@ -30,7 +31,7 @@ smallBytes =
 -- an answer of a call, with the output that it leaves
 pub data Answer : Type 0 where
   bestIs : BestAnswer → Answer
-  coverIs : CoverAnswer → List ℕ → Answer
+  coverIs : ListAnswer → List ℕ → Answer
   isolateIs : IsolateAnswer → Answer
 
 -- what is computed, and what is expected

@@ -10,10 +10,11 @@ use Rattle.buffers.specs.Parts.{splice}
 use Rattle.slots.specs.Slots.{slots}
 use Rattle.messages.specs.Reports.{decodeReport}
 use Rattle.numbers.specs.Written.{numberBytes}
+use Rattle.numbers.specs.Answers.{answerOf as listAnswerOf}
 use Rattle.checks.specs.Refusals.{unlessRefused}
 use Rattle.settling.specs.Settling.{reportBytes}
 use Rattle.keeper.specs.Reports.{reportRefused, reportAnswer}
-use Rattle.open_slots.specs.Opens.{openIn, openRefusal, answerOf as openOf}
+use Rattle.open_slots.specs.Opens.{openIn, openRefusal}
 use Rattle.decisions.specs.Decided.{deciding}
 use Rattle.verdict.specs.Decisions.{missIn}
 use Rattle.carrying.specs.Carrying.{answerOf as missAnswerOf}
@@ -40,5 +41,5 @@ pub record ReportCall (keeper m : List ℕ) (r : WgDone) (keeper′ : List ℕ) 
   pub bytes : keeper′ ≡ unlessRefused (reportRefused keeper m) keeper (reportBytes keeper (decodeReport m))
 
 pub record OpenCall (keeper out : List ℕ) (r : WgCount) (out′ : List ℕ) : Type 0 where
-  pub numbers : r ≡ openedNumbers (openOf (openRefusal keeper (length out)) (length (openIn keeper)))
+  pub numbers : r ≡ openedNumbers (listAnswerOf (openRefusal keeper (length out)) (length (openIn keeper)))
   pub written : out′ ≡ unlessRefused (openRefusal keeper (length out)) out (splice 0 (numberBytes (openIn keeper)) out)

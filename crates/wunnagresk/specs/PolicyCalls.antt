@@ -6,7 +6,8 @@ use lib.ListN.{length}
 use Rattle.buffers.specs.Parts.{splice}
 use Rattle.checks.specs.Refusals.{unlessRefused}
 use Rattle.numbers.specs.Written.{numberBytes}
-use Rattle.cover.specs.Answers.{coverRefusal, coverList, answerOf}
+use Rattle.numbers.specs.Answers.{answerOf}
+use Rattle.cover.specs.Answers.{coverRefusal, coverList}
 use Rattle.policy_answers.specs.Policy.{coveredNumbers}
 use Rattle.answers.specs.declared.structs.WgCount.{WgCount}
 

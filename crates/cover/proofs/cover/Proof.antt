@@ -1,7 +1,7 @@
 -- `cover::cover` meets its contract: at each way out, the tests that led there say which answer it is. Assumes nothing.
 use borrow.Author.Needs.{needs}
 use native.Mathlib.Omega.{arith}
-use Rattle.cover.proofs.AnswerLaws.{Taken, taken-of, cover-few, refused-policy, refused-number, refused-short, covered-count}
+use Rattle.cover.proofs.AnswerLaws.{Taken, taken-of, cover-few, refused-policy, refused-number, covered-list}
 use Rattle.cover.proofs.cover.Statement.{statement}
 use Rattle.cover.proofs.cover.Tie as tie
 
@@ -15,29 +15,19 @@ returns c = refused-number _ _ _ (taken (c .before .before)) (c .if1 .taken)
 dependents-of-requires : tie.Need-dependents-of-requires
 dependents-of-requires c κs = let is = taken (c .before .before) in (omega (arith, is .counted), is .few)
 
-mul-if2 : tie.Need-mul-if2
-mul-if2 c = omega (arith, cover-few _ _ (c .before .dependents-of .ensures), taken (c .before .before .before .before) .few)
+list-answer-requires : tie.Need-list-answer-requires
+list-answer-requires c κs =
+    let list = c .before .dependents-of .ensures in
+    (omega (arith, cover-few _ _ list, taken (c .before .before .before .before) .few), list .few)
 
 returns-2 : tie.Need-returns-2
-returns-2 c =
-    let d = c .before .before in
-    refused-short _ _ _ (taken (d .before .before .before)) (d .before .if1 .left) (d .dependents-of .ensures) (omega (arith, c .if2 .taken))
-
-put-numbers-requires : tie.Need-put-numbers-requires
-put-numbers-requires c κs =
-    let d = c .before .before .before in
-    let list = d .dependents-of .ensures in
-    (omega (arith, cover-few _ _ list, taken (d .before .before .before) .few), list .few, c .before .if2 .left)
+returns-2 c = refused-policy _ _ _ (c .before .before .before .check .ensures) (c .before .r .given .1)
 
 returns-3 : tie.Need-returns-3
-returns-3 c = refused-policy _ _ _ (c .before .before .before .check .ensures) (c .before .r .given .1)
-
-returns-4 : tie.Need-returns-4
-returns-4 c =
-    let e = c .before .before .before .before in
-    let d = e .before .before in
-    covered-count _ _ _ (taken (d .before .before .before)) (d .before .if1 .left) (d .dependents-of .ensures) (e .if2 .left)
-    (c .before .before .put-numbers .ensures)
+returns-3 c =
+    let d = c .before .before .before .before in
+    covered-list _ _ _ (taken (d .before .before .before)) (d .before .if1 .left) (d .dependents-of .ensures)
+    (c .before .before .list-answer .ensures)
 
 pub cover-spec : {M : Type 1} → statement M
 cover-spec =
@@ -48,9 +38,7 @@ cover-spec =
     (λ c. search needs)
     returns
     dependents-of-requires
-    mul-if2
+    list-answer-requires
     returns-2
-    put-numbers-requires
-    returns-3
     (λ c. search needs)
-    returns-4)
+    returns-3)
