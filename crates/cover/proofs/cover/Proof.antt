@@ -10,7 +10,7 @@ taken : (c : tie.After-n) → Taken (c .before .before .before .before .before .
 taken c = taken-of (c .before .before .check .ensures) (c .n .given .1)
 
 returns : tie.Need-returns
-returns c = refused-number _ _ _ (taken (c .before .before)) (c .if1 .taken)
+returns c = refused-number _ _ _ (taken (c .before .before)) (omega (arith, c .if1 .taken))
 
 dependents-of-requires : tie.Need-dependents-of-requires
 dependents-of-requires c κs = let is = taken (c .before .before) in (omega (arith, is .counted), is .few)
