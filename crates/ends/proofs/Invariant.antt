@@ -146,7 +146,8 @@ module _ {n : ℕ} {p : Decisions} {width slots : ℕ} {k t : List Slot} {ws : L
   }
 
   -- the table reports a slot
-  pub report-good : (x : Report) → x .slot < slots → 0 < x .sequence → x .sequence ≤ slotAt t (x .slot) .sequence → Good n p width slots k t ws (x ∷ rs)
+  pub report-good : (x : Report) → x .slot < slots → 0 < x .sequence → x .sequence ≤ slotAt t (x .slot) .sequence
+      → Good n p width slots k t ws (x ∷ rs)
   report-good x inside live old = record {
     keeperSize = g .keeperSize;
     tableSize = g .tableSize;
