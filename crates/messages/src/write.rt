@@ -1,7 +1,7 @@
 // Writes: what the keeper sends to the table.
 use crate::head::head_bytes;
-use records::entry::entry_bytes;
-use records::entry::tail_bytes;
+use entry_records::entry_bytes;
+use entry_records::tail_bytes;
 use records::layout;
 use records::row::row_at;
 ghost use mathlib.Core.Path.{_≡_};

@@ -1,5 +1,4 @@
 // The records that a caller lends: where each field stands; rules and traces, read where they lie.
-pub mod entry;
 pub mod layout;
 pub mod row;
 pub mod rule;

@@ -1,6 +1,6 @@
 // Slots: the records of the table and of the keeper.
-use records::entry::entry_bytes;
-use records::entry::tail_bytes;
+use entry_records::entry_bytes;
+use entry_records::tail_bytes;
 use records::layout;
 use records::row::row_at;
 ghost use mathlib.Core.Path.{_≡_};

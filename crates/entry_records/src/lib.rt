@@ -1,5 +1,5 @@
 // How a slot and a write are laid out alike: eight bytes, the two rows of a pattern, two numbers of two bytes, and two bytes.
-use crate::layout;
+use records::layout;
 ghost use mathlib.Core.Path.{_≡_};
 ghost use mathlib.Core.List.{[], _∷_, _++_};
 ghost use Prim.Native.Nat.{_+_, _≤_};

@@ -1,13 +1,13 @@
--- `records::entry::entry_bytes` meets its contract: the four parts fill the record. Assumes nothing.
+-- `entry_records::entry_bytes` meets its contract: the four parts fill the record. Assumes nothing.
 use borrow.Author.Needs.{needs}
 use Prim.Native.Nat.{ℕ}
 use mathlib.Core.List.{List}
 use lib.ListN.{replicate}
 use Rattle.buffers.proofs.PartLaws.{fill-four}
 use Rattle.ternary.specs.Sizes.{keySize}
 use Rattle.records.specs.Layout.{slotValue, slotMask, slotAction, slotSize}
-use Rattle.records.proofs.entry.entry_bytes.Statement.{statement}
-use Rattle.records.proofs.entry.entry_bytes.Tie as tie
+use Rattle.entry_records.proofs.entry_bytes.Statement.{statement}
+use Rattle.entry_records.proofs.entry_bytes.Tie as tie
 
 returns : tie.Need-returns
 returns c =
