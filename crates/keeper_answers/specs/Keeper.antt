@@ -3,10 +3,7 @@ use Rattle.carrying.specs.declared.MissAnswer.{MissAnswer}
 use Rattle.carrying.specs.declared.MissAnswer.the-variants.{Refused as MissRefused, Outcome}
 use Rattle.keeper.specs.declared.ReportAnswer.{ReportAnswer}
 use Rattle.keeper.specs.declared.ReportAnswer.the-variants.{Refused as ReportRefused, Taken}
-use Rattle.numbers.specs.declared.ListAnswer.{ListAnswer}
-use Rattle.numbers.specs.declared.ListAnswer.the-variants.{Refused as OpenRefused, Count}
 use Rattle.answers.specs.declared.structs.WgDone.{WgDone}
-use Rattle.answers.specs.declared.structs.WgCount.{WgCount}
 use Rattle.answers.specs.declared.structs.WgOutcome.{WgOutcome}
 
 -- refused: its number and place, the rest 0; else the outcome's values, with 65,535 for no rule and no slot
@@ -27,8 +24,3 @@ outcomeNumbers (Outcome x) =
 abbrev pub reportedNumbers : ReportAnswer → WgDone
 reportedNumbers (ReportRefused r) = record { refusal = r .number; place = r .place }
 reportedNumbers Taken = record { refusal = 0; place = 0 }
-
--- how many numbers were written
-abbrev pub openedNumbers : ListAnswer → WgCount
-openedNumbers (OpenRefused r) = record { refusal = r .number; place = r .place; count = 0 }
-openedNumbers (Count n) = record { refusal = 0; place = 0; count = n }

@@ -1,12 +1,10 @@
 // The keeper's answers as numbers.
-use answers::structs::WgCount;
 use answers::structs::WgDone;
 use answers::structs::WgOutcome;
 use carrying::MissAnswer;
 use keeper::ReportAnswer;
-use numbers::ListAnswer;
 ghost use mathlib.Core.Path.{_≡_};
-ghost use Rattle.keeper_answers.specs.Keeper.{outcomeNumbers, reportedNumbers, openedNumbers};
+ghost use Rattle.keeper_answers.specs.Keeper.{outcomeNumbers, reportedNumbers};
 
 // Of a miss.
 pub fn outcome_numbers(answer: MissAnswer) -> WgOutcome
@@ -46,24 +44,6 @@ pub fn reported_numbers(answer: ReportAnswer) -> WgDone
         ReportAnswer::Taken => WgDone {
             refusal: 0,
             place: 0,
-        },
-    }
-}
-
-// Of the open list.
-pub fn opened_numbers(answer: ListAnswer) -> WgCount
-    ensures { λ r. ⌜ r ≡ openedNumbers answer ⌝ }
-{
-    match answer {
-        ListAnswer::Refused(refusal) => WgCount {
-            refusal: refusal.number,
-            place: refusal.place,
-            count: 0,
-        },
-        ListAnswer::Count(count) => WgCount {
-            refusal: 0,
-            place: 0,
-            count,
         },
     }
 }

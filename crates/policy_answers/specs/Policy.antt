@@ -4,8 +4,6 @@ use Rattle.policy.specs.declared.PolicyAnswer.{PolicyAnswer}
 use Rattle.policy.specs.declared.PolicyAnswer.the-variants.{Refused as PolicyRefused, Rules}
 use Rattle.best.specs.declared.BestAnswer.{BestAnswer}
 use Rattle.best.specs.declared.BestAnswer.the-variants.{Refused as BestRefused, NoRule, Rule}
-use Rattle.numbers.specs.declared.ListAnswer.{ListAnswer}
-use Rattle.numbers.specs.declared.ListAnswer.the-variants.{Refused as CoverRefused, Count}
 use Rattle.answers.specs.declared.structs.WgCount.{WgCount}
 use Rattle.answers.specs.declared.structs.WgBestAnswer.{WgBestAnswer}
 
@@ -19,8 +17,3 @@ abbrev pub bestNumbers : BestAnswer → WgBestAnswer
 bestNumbers (BestRefused r) = record { refusal = r .number; place = r .place; found = 0; rule = 0; action = 0 }
 bestNumbers NoRule = record { refusal = 0; place = 0; found = 0; rule = nothing; action = 0 }
 bestNumbers (Rule rule action) = record { refusal = 0; place = 0; found = 1; rule = rule; action = action }
-
--- how many numbers were written
-abbrev pub coveredNumbers : ListAnswer → WgCount
-coveredNumbers (CoverRefused r) = record { refusal = r .number; place = r .place; count = 0 }
-coveredNumbers (Count n) = record { refusal = 0; place = 0; count = n }

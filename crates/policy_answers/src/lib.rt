@@ -2,11 +2,10 @@
 use answers::structs::WgBestAnswer;
 use answers::structs::WgCount;
 use best::BestAnswer;
-use numbers::ListAnswer;
 use outcomes::kinds;
 use policy::PolicyAnswer;
 ghost use mathlib.Core.Path.{_≡_};
-ghost use Rattle.policy_answers.specs.Policy.{checkedNumbers, bestNumbers, coveredNumbers};
+ghost use Rattle.policy_answers.specs.Policy.{checkedNumbers, bestNumbers};
 
 // Of the check.
 pub fn checked_numbers(answer: PolicyAnswer) -> WgCount
@@ -51,24 +50,6 @@ pub fn best_numbers(answer: BestAnswer) -> WgBestAnswer
             found: 1,
             rule,
             action,
-        },
-    }
-}
-
-// Of the cover list.
-pub fn covered_numbers(answer: ListAnswer) -> WgCount
-    ensures { λ r. ⌜ r ≡ coveredNumbers answer ⌝ }
-{
-    match answer {
-        ListAnswer::Refused(refusal) => WgCount {
-            refusal: refusal.number,
-            place: refusal.place,
-            count: 0,
-        },
-        ListAnswer::Count(count) => WgCount {
-            refusal: 0,
-            place: 0,
-            count,
         },
     }
 }

@@ -20,7 +20,8 @@ use Rattle.verdict.specs.Decisions.{missIn}
 use Rattle.carrying.specs.Carrying.{answerOf as missAnswerOf}
 use Rattle.carrying.specs.declared.MissAnswer.{MissAnswer}
 use Rattle.miss.specs.Answers.{missRefused, missBytes, outWith}
-use Rattle.keeper_answers.specs.Keeper.{outcomeNumbers, reportedNumbers, openedNumbers}
+use Rattle.keeper_answers.specs.Keeper.{outcomeNumbers, reportedNumbers}
+use Rattle.list_answers.specs.Lists.{listNumbers}
 use Rattle.answers.specs.declared.structs.WgCount.{WgCount}
 use Rattle.answers.specs.declared.structs.WgDone.{WgDone}
 use Rattle.answers.specs.declared.structs.WgOutcome.{WgOutcome}
@@ -41,5 +42,5 @@ pub record ReportCall (keeper m : List ℕ) (r : WgDone) (keeper′ : List ℕ) 
   pub bytes : keeper′ ≡ unlessRefused (reportRefused keeper m) keeper (reportBytes keeper (decodeReport m))
 
 pub record OpenCall (keeper out : List ℕ) (r : WgCount) (out′ : List ℕ) : Type 0 where
-  pub numbers : r ≡ openedNumbers (listAnswerOf (openRefusal keeper (length out)) (length (openIn keeper)))
+  pub numbers : r ≡ listNumbers (listAnswerOf (openRefusal keeper (length out)) (length (openIn keeper)))
   pub written : out′ ≡ unlessRefused (openRefusal keeper (length out)) out (splice 0 (numberBytes (openIn keeper)) out)

@@ -8,9 +8,9 @@ use Rattle.checks.specs.Refusals.{unlessRefused}
 use Rattle.numbers.specs.Written.{numberBytes}
 use Rattle.numbers.specs.Answers.{answerOf}
 use Rattle.cover.specs.Answers.{coverRefusal, coverList}
-use Rattle.policy_answers.specs.Policy.{coveredNumbers}
+use Rattle.list_answers.specs.Lists.{listNumbers}
 use Rattle.answers.specs.declared.structs.WgCount.{WgCount}
 
 pub record CoverCall (policy : List ℕ) (number : ℕ) (out : List ℕ) (r : WgCount) (out′ : List ℕ) : Type 0 where
-  pub numbers : r ≡ coveredNumbers (answerOf (coverRefusal policy number (length out)) (length (coverList policy number)))
+  pub numbers : r ≡ listNumbers (answerOf (coverRefusal policy number (length out)) (length (coverList policy number)))
   pub written : out′ ≡ unlessRefused (coverRefusal policy number (length out)) out (splice 0 (numberBytes (coverList policy number)) out)

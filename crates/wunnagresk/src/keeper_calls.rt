@@ -26,5 +26,5 @@ pub extern "C" fn wg_report(keeper: &mut [u8], message: &[u8]) -> WgDone
 pub extern "C" fn wg_open(keeper: &[u8], out: &mut [u8]) -> WgCount
     ensures { λ r. ⌜ OpenCall (now (keeper .entry)) (now (out .entry)) r (now (out .exit)) ⌝ }
 {
-    keeper_answers::opened_numbers(open_slots::open_list(keeper, out))
+    list_answers::list_numbers(open_slots::open_list(keeper, out))
 }

@@ -43,7 +43,7 @@ pub extern "C" fn wg_rule(policy: &[u8], number: usize) -> WgPart
 pub extern "C" fn wg_cover(policy: &[u8], number: usize, out: &mut [u8]) -> WgCount
     ensures { λ r. ⌜ CoverCall (now (policy .entry)) number (now (out .entry)) r (now (out .exit)) ⌝ }
 {
-    policy_answers::covered_numbers(cover::cover(policy, number, out))
+    list_answers::list_numbers(cover::cover(policy, number, out))
 }
 
 // Isolates the key's best rule, and writes its pattern to the start of `out`, value then mask.

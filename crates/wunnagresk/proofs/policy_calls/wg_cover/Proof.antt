@@ -1,14 +1,14 @@
 -- `wunnagresk::policy_calls::wg_cover` meets its contract: the inner call's answer as numbers, its buffers as they are. Assumes nothing.
 use borrow.Author.Needs.{needs}
 use mathlib.Core.Path.{ap, _∙_}
-use Rattle.policy_answers.specs.Policy.{coveredNumbers}
+use Rattle.list_answers.specs.Lists.{listNumbers}
 use Rattle.wunnagresk.proofs.policy_calls.wg_cover.Statement.{statement}
 use Rattle.wunnagresk.proofs.policy_calls.wg_cover.Tie as tie
 
 returns : tie.Need-returns
 returns c =
     let k = c .before .before .before .cover .ensures in
-    record { numbers = c .covered-numbers .ensures ∙ ap coveredNumbers (k .answer); written = k .written }
+    record { numbers = c .list-numbers .ensures ∙ ap listNumbers (k .answer); written = k .written }
 
 pub wg-cover-spec : {M : Type 1} → statement M
 wg-cover-spec =
