@@ -372,4 +372,4 @@ def make():
     cases = Cases()
     for ask in (refusals, printed_run, two_writes, lookups, writes, misses, reports, opens, shows):
         ask(cases)
-    return cases.files('ends_test', 'buffers.bin')
+    return cases.files('test_ends', 'buffers.bin')

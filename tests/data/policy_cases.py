@@ -150,4 +150,4 @@ def make():
     vectors(cases)
     edges(cases)
     refusals(cases)
-    return cases.files('policy_test', 'policies.bin')
+    return cases.files('test_policy', 'policies.bin')

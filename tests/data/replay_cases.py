@@ -79,7 +79,7 @@ def runs(cases):
 
 
 def program(name, files, text):
-    return {**{f'crates/replay_{name}/data/{path}': data for path, data in files.items()}, f'crates/replay_{name}/stdout': text.encode()}
+    return {**{f'crates/{name}/data/{path}': data for path, data in files.items()}, f'crates/{name}/stdout': text.encode()}
 
 
 def refused():
@@ -93,7 +93,7 @@ def refused():
              'large_policy': {policy: bytes(MOST_POLICY_BYTES + 1), slots: TWO},
              'large_trace': {policy: POLICY, trace: bytes(MOST_TRACE_BYTES + 1), slots: TWO}}
     text = ''.join(f'{name}\n{printed(*(files.get(path, b"") for path in (slots, policy, trace)))}' for name, files in cases.items())
-    return program('refused', {f'{name}/{path}': data for name, files in cases.items() for path, data in files.items()}, text)
+    return program('test_files', {f'{name}/{path}': data for name, files in cases.items() for path, data in files.items()}, text)
 
 
 def make():
@@ -104,5 +104,5 @@ def make():
     runs(cases)
     example = {'policy.bin': POLICY, 'trace.bin': TRACE, 'slots.txt': TWO}
     return {**{f'examples/small/{path}': data for path, data in example.items()},
-            **program('example', example, printed(TWO, POLICY, TRACE)),
-            **refused(), **cases.files('replay_test', 'parts.bin')}
+            **program('replay', example, printed(TWO, POLICY, TRACE)),
+            **refused(), **cases.files('test_replay', 'parts.bin')}

@@ -121,4 +121,4 @@ def make():
     cases.place(FILLER + POLICY + FLAWED + b'\0')
     for ask in (refusals, printed, papers, odd_states, lengths, totals):
         ask(cases)
-    return cases.files('run_test', 'buffers.bin')
+    return cases.files('test_run', 'buffers.bin')

@@ -11,7 +11,7 @@ use lib.ListN.{getD}
 use borrow.Author.Tests.{eqb-true, eq-eqb}
 use Rattle.model.specs.Pattern.{canonical}
 use Rattle.model.proofs.Cases.{by-cases}
-use Rattle.bits.proofs.StrayLaws.{canonical-clean, clean-canonical}
+use Rattle.ternary.proofs.StrayLaws.{canonical-clean, clean-canonical}
 use Rattle.buffers.specs.Parts.{part}
 use Rattle.records.specs.Layout.{ruleValue, ruleMask, writeValue, writeMask}
 use Rattle.checks.specs.Flaws.{Zeros, firstNonzero, strayIn, flawOf, isFlawed}

@@ -20,12 +20,12 @@ fn stray_flaw(r: &[u8], value: usize, mask: usize) -> Flaw
     requires { ⌜ (value + keySize ≤ length (now r)) × (mask + keySize ≤ length (now r)) ⌝ }
     ensures { λ x. ⌜ x ≡ flawOf none (strayIn keySize value mask (now (r .entry))) ⌝ }
 {
-    match bits::first_stray(
+    match ternary::bits::first_stray(
         &r[value..value + layout::KEY_SIZE],
         &r[mask..mask + layout::KEY_SIZE],
     ) {
-        bits::Stray::Clean => Flaw::Clean,
-        bits::Stray::At(i) => Flaw::Stray(value + i),
+        ternary::bits::Stray::Clean => Flaw::Clean,
+        ternary::bits::Stray::At(i) => Flaw::Stray(value + i),
     }
 }
 

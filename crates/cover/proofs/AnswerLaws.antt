@@ -19,12 +19,12 @@ use Rattle.policy.specs.Answers.{checkAnswer}
 use Rattle.policy.proofs.CheckLaws.{check-refused, check-passed, check-count, passed-few}
 use Rattle.policy.specs.declared.PolicyAnswer.{PolicyAnswer}
 use Rattle.policy.specs.declared.PolicyAnswer.the-variants.{Refused as Bad, Rules}
-use Rattle.numbers.specs.Numbers.{Lists}
-use Rattle.numbers.specs.Answers.{listRefusal, Answered}
-use Rattle.numbers.specs.declared.ListAnswer.{ListAnswer}
-use Rattle.numbers.specs.declared.ListAnswer.the-variants.{Refused}
-use Rattle.numbers.proofs.GatherLaws.{lists-few}
-use Rattle.numbers.proofs.AnswerLaws.{answered-as}
+use Rattle.lists.specs.Numbers.{Lists}
+use Rattle.lists.specs.Answers.{listRefusal, Answered}
+use Rattle.lists.specs.declared.ListAnswer.{ListAnswer}
+use Rattle.lists.specs.declared.ListAnswer.the-variants.{Refused}
+use Rattle.lists.proofs.GatherLaws.{lists-few}
+use Rattle.lists.proofs.AnswerLaws.{answered-as}
 use Rattle.cover.specs.Depends.{dependsOn}
 use Rattle.cover.specs.Answers.{coverList, coverRefusal, Covered}
 

@@ -13,9 +13,9 @@ use Rattle.records.specs.Rules.{ruleCount, rules}
 use Rattle.checks.specs.Refusals.{orElse, need, unlessRefused}
 use Rattle.checks.specs.declared.refusal.Refusal.{Refusal}
 use Rattle.policy.specs.Refusals.{policyRefusal}
-use Rattle.numbers.specs.Written.{numberBytes}
-use Rattle.numbers.specs.Answers.{listRefusal, answerOf}
-use Rattle.numbers.specs.declared.ListAnswer.{ListAnswer}
+use Rattle.lists.specs.Written.{numberBytes}
+use Rattle.lists.specs.Answers.{listRefusal, answerOf}
+use Rattle.lists.specs.declared.ListAnswer.{ListAnswer}
 
 -- the dependents of the rule of that number, which are its cover list
 abbrev pub coverList : List ℕ → ℕ → List ℕ

@@ -1,3 +1,5 @@
+-- Lists in order of precedence.
+pub mod Places
 -- The test for a dependent, and what the cover list's call answers.
 pub mod Depends
 pub mod Answers

@@ -1,10 +1,11 @@
 // The dependents of a rule, which are its cover list.
+pub mod dependents;
+pub mod precedence;
+
 use checks::refusal;
 use checks::refusal::Refusal;
-use numbers::ListAnswer;
+use lists::ListAnswer;
 ghost use Rattle.cover.specs.Answers.{Covered};
-
-pub mod dependents;
 
 // Writes the cover list of a rule to the start of `out`, two bytes a number, in order of precedence; a refusal writes nothing.
 pub fn cover(policy: &[u8], number: usize, out: &mut [u8]) -> ListAnswer
@@ -20,7 +21,7 @@ pub fn cover(policy: &[u8], number: usize, out: &mut [u8]) -> ListAnswer
                 });
             }
             let list = dependents::dependents_of(policy, number);
-            numbers::list_answer(list, out)
+            lists::list_answer(list, out)
         }
     }
 }

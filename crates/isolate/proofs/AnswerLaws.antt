@@ -19,12 +19,12 @@ use Rattle.checks.specs.declared.refusal.Refusal.{Refusal}
 use Rattle.checks.proofs.RefusalLaws.{none-first, need-none, key-accepted}
 use Rattle.checks.specs.Keys.{keyRefusal}
 use Rattle.policy.specs.Refusals.{policyRefusal}
-use Rattle.best.specs.Best.{bestFound}
-use Rattle.best.specs.declared.BestFound.{BestFound}
-use Rattle.best.specs.declared.BestFound.the-variants.{NoRule, Rule as Found}
+use Rattle.policy.specs.Best.{bestFound}
+use Rattle.policy.specs.declared.search.BestFound.{BestFound}
+use Rattle.policy.specs.declared.search.BestFound.the-variants.{NoRule, Rule as Found}
 use Rattle.policy.proofs.CheckLaws.{passed-few}
-use Rattle.best.proofs.BestLaws.{found-none, found-rule}
-use Rattle.rounds.specs.Ready.{Ready}
+use Rattle.policy.proofs.BestLaws.{found-none, found-rule}
+use Rattle.isolate.specs.Ready.{Ready}
 use Rattle.isolate.specs.Answers.{isBest, isolateRefusal, saidOf}
 use Rattle.isolate.specs.declared.Said.{Said}
 use Rattle.isolate.specs.declared.Said.the-variants.{Refused, Isolated}

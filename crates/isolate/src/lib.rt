@@ -1,10 +1,13 @@
 // Isolating a rule for a key.
+pub mod rounds;
+pub mod separation;
+
 use checks::refusal;
 use checks::refusal::Refusal;
 use records::layout;
 ghost use mathlib.Core.Path.{_≡_};
 ghost use Rattle.checks.specs.Refusals.{refusal as refusalAt};
-ghost use Rattle.rounds.specs.Structs.{asIsolated};
+ghost use Rattle.isolate.specs.Structs.{asIsolated};
 ghost use Rattle.isolate.specs.Answers.{isolateRefusal, isolateAnswer, saidOf, refusedAnswer, isolatedAnswer};
 
 // Why a rule is not isolated, or that it is.
@@ -42,10 +45,10 @@ fn may_isolate(policy: &[u8], key: &[u8], number: usize) -> Said
             if n <= number {
                 return refused(refusal::NO_SUCH_RULE);
             }
-            match best::best_rule(policy, key) {
-                best::BestFound::NoRule => refused(refusal::NOT_BEST),
-                best::BestFound::Rule(best, _) => {
-                    if numbers::wide(best) == number {
+            match policy::search::best_rule(policy, key) {
+                policy::search::BestFound::NoRule => refused(refusal::NOT_BEST),
+                policy::search::BestFound::Rule(best, _) => {
+                    if lists::wide(best) == number {
                         Said::Isolated
                     } else {
                         refused(refusal::NOT_BEST)
@@ -70,7 +73,7 @@ fn refused_answer(refusal: Refusal) -> IsolateAnswer
 }
 
 // The answer with an isolated rule.
-fn isolated_answer(rule: rounds::Isolated) -> IsolateAnswer
+fn isolated_answer(rule: crate::rounds::Isolated) -> IsolateAnswer
     ensures { λ r. ⌜ r ≡ isolatedAnswer (asIsolated rule) ⌝ }
 {
     let value = rule.value;
@@ -90,6 +93,6 @@ pub fn isolate(policy: &[u8], key: &[u8], number: usize) -> IsolateAnswer
 {
     match may_isolate(policy, key, number) {
         Said::Refused(refusal) => refused_answer(refusal),
-        Said::Isolated => isolated_answer(rounds::isolate_best(policy, key, number)),
+        Said::Isolated => isolated_answer(crate::rounds::isolate_best(policy, key, number)),
     }
 }

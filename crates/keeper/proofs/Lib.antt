@@ -1,2 +1,4 @@
 -- Laws of a report at the keeper.
 pub mod ReportLaws
+-- Laws of the open slots.
+pub mod OpenLaws

@@ -18,14 +18,14 @@ use Rattle.records.specs.Layout.{reportKind, reportZero, reportSize, isReport}
 use Rattle.checks.specs.Refusals.{need}
 use Rattle.checks.specs.Flaws.{isFlawed, reportFlaw}
 use Rattle.checks.specs.declared.refusal.Refusal.{Refusal}
-use Rattle.slots.specs.Slots.{slotCount, slots}
-use Rattle.slots.specs.Refusals.{slotsRefusal, WholeSlots}
-use Rattle.slots.proofs.SlotLaws.{slot-count}
-use Rattle.slots.proofs.FitLaws.{slots-accepted}
+use Rattle.end_records.specs.Slots.{slotCount, slots}
+use Rattle.checks.specs.BufferRefusals.{slotsRefusal, WholeSlots}
+use Rattle.end_records.proofs.SlotLaws.{slot-count}
+use Rattle.checks.proofs.FitLaws.{slots-accepted}
 use Rattle.checks.proofs.CleanLaws.{report-clean}
-use Rattle.messages.specs.Reports.{decodeReport}
+use Rattle.end_records.specs.Reports.{decodeReport}
 use Rattle.checks.proofs.RefusalLaws.{none-first, need-none}
-use Rattle.settling.specs.Settling.{ReportTaken}
+use Rattle.slots.specs.Settling.{ReportTaken}
 use Rattle.keeper.specs.Reports.{numbered, bytesRefusal, reportRefused, answerOf, reportAnswer, Reported}
 use Rattle.keeper.specs.declared.ReportAnswer.{ReportAnswer}
 use Rattle.keeper.specs.declared.ReportAnswer.the-variants.{Refused, Taken}

@@ -13,10 +13,10 @@ use Rattle.records.specs.Layout.{reportKind, reportSize, isReport}
 use Rattle.checks.specs.Refusals.{refusal, orElse, need, unlessRefused}
 use Rattle.checks.specs.declared.refusal.Refusal.{Refusal}
 use Rattle.checks.specs.Flaws.{isFlawed, reportFlaw}
-use Rattle.slots.specs.Slots.{slots}
-use Rattle.slots.specs.Refusals.{slotsRefusal}
-use Rattle.messages.specs.Reports.{decodeReport}
-use Rattle.settling.specs.Settling.{reportBytes}
+use Rattle.end_records.specs.Slots.{slots}
+use Rattle.checks.specs.BufferRefusals.{slotsRefusal}
+use Rattle.end_records.specs.Reports.{decodeReport}
+use Rattle.slots.specs.Settling.{reportBytes}
 use Rattle.keeper.specs.declared.ReportAnswer.{ReportAnswer}
 use Rattle.keeper.specs.declared.ReportAnswer.the-variants.{Refused, Taken}
 

@@ -1,8 +1,10 @@
 // The keeper receives a report.
+pub mod open_list;
+pub mod open_slots;
+pub mod reports;
+
 use checks::refusal::Refusal;
 ghost use Rattle.keeper.specs.Reports.{Reported};
-
-pub mod reports;
 
 // A report's refusal, or that it was taken.
 pub enum ReportAnswer {
@@ -17,6 +19,6 @@ pub fn report(keeper: &mut [u8], message: &[u8]) -> ReportAnswer
     if let ReportAnswer::Refused(refusal) = reports::may_report(keeper, message) {
         return ReportAnswer::Refused(refusal);
     }
-    settling::take_report(keeper, messages::report::report_of(message));
+    slots::settle::take_report(keeper, end_records::report::report_of(message));
     ReportAnswer::Taken
 }

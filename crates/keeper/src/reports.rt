@@ -3,16 +3,16 @@ use crate::ReportAnswer;
 use checks::flaw::Flaw;
 use checks::refusal;
 use checks::refusal::Refusal;
-use messages::report::Report;
-use numbers::wide;
+use end_records::report::Report;
+use lists::wide;
 use records::layout;
 ghost use mathlib.Core.Path.{_≡_};
 ghost use mathlib.Core.Option.{some};
 ghost use Rattle.ends.specs.Ends.{reportRefusal};
 ghost use Rattle.ternary.specs.Sizes.{keySize};
 ghost use Rattle.checks.specs.Refusals.{refusal as refusalAt};
-ghost use Rattle.slots.specs.Slots.{slots};
-ghost use Rattle.messages.specs.Structs.{asReport};
+ghost use Rattle.end_records.specs.Slots.{slots};
+ghost use Rattle.end_records.specs.MessageStructs.{asReport};
 ghost use Rattle.keeper.specs.Reports.{answerOf, numbered, bytesRefusal, reportAnswer};
 
 // The refusal of that number, at place 0.
@@ -50,7 +50,7 @@ fn check_slot(keeper: &[u8], x: Report) -> ReportAnswer
     if x.sequence == 0 {
         return refused(refusal::SEQUENCE_ZERO);
     }
-    if slots::fields::sequence_at(keeper, i) < x.sequence {
+    if end_records::fields::sequence_at(keeper, i) < x.sequence {
         return refused(refusal::REPORT_AHEAD);
     }
     ReportAnswer::Taken
@@ -60,11 +60,11 @@ fn check_slot(keeper: &[u8], x: Report) -> ReportAnswer
 pub fn may_report(keeper: &[u8], message: &[u8]) -> ReportAnswer
     ensures { λ r. ⌜ r ≡ reportAnswer (now (keeper .entry)) (now (message .entry)) ⌝ }
 {
-    if !slots::buffer::slots_fit(keeper) {
+    if !checks::buffer::slots_fit(keeper) {
         return refused(refusal::BAD_SLOTS);
     }
     match check_bytes(message) {
         ReportAnswer::Refused(r) => ReportAnswer::Refused(r),
-        ReportAnswer::Taken => check_slot(keeper, messages::report::report_of(message)),
+        ReportAnswer::Taken => check_slot(keeper, end_records::report::report_of(message)),
     }
 }

@@ -1,2 +1,6 @@
 -- The lines that the program prints.
 pub mod Printed
+-- Lines in a lent output.
+pub mod Listing
+-- What slots.txt says.
+pub mod Slots

@@ -2,8 +2,8 @@
 use mathlib.Core.List.{List, [], _∷_, _++_}
 use Prim.Native.Nat.{ℕ}
 use Rattle.ends.specs.Records.{Outcome, Totals}
-use Rattle.line.specs.Decimal.{decimal}
-use Rattle.line.specs.Words.{orDash}
+use Rattle.text.specs.Decimal.{decimal}
+use Rattle.text.specs.Words.{orDash}
 
 abbrev pub space : ℕ
 space = 32

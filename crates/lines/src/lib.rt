@@ -1,14 +1,17 @@
 // The lines that the program prints, as text by value. Each is built from its end.
+pub mod put;
+pub mod slots_text;
+
 use checks::refusal::Refusal;
-use line::Line;
-use line::with_number;
-use line::with_place;
-use line::with_text;
+use text::Line;
+use text::with_number;
+use text::with_place;
+use text::with_text;
 ghost use mathlib.Core.Path.{_≡_};
 ghost use lib.ListN.{length};
 ghost use Rattle.records.specs.Layout.{outcomeSize};
-ghost use Rattle.outcomes.specs.Outcomes.{decodeOutcome};
-ghost use Rattle.line.specs.Line.{Says};
+ghost use Rattle.records.specs.Outcomes.{decodeOutcome};
+ghost use Rattle.text.specs.Line.{Says};
 ghost use Rattle.lines.specs.Printed.{outcomeLine, totalsLine, refusalLine};
 
 const SPACE: u8 = 32;
@@ -39,8 +42,8 @@ pub fn outcome_line(c: &[u8]) -> Line
     requires { ⌜ length (now c) ≡ outcomeSize ⌝ }
     ensures { λ r. ⌜ Says (outcomeLine (decodeOutcome (now (c .entry)))) r ⌝ }
 {
-    let x = outcomes::outcome_of(c);
-    let evicted = with_place(line::empty(), x.evicted, NEWLINE);
+    let x = records::outcome::outcome_of(c);
+    let evicted = with_place(text::empty(), x.evicted, NEWLINE);
     let slot = with_place(evicted, x.slot, SPACE);
     let rule = with_place(slot, x.rule, SPACE);
     let action = with_number(rule, wide16(x.action), SPACE);
@@ -52,7 +55,7 @@ pub fn totals_line(packets: u64, hits: u64, misses: u64, none: u64, evictions: u
     ensures { λ r. ⌜ Says (totalsLine
         (record { packets = packets; hits = hits; misses = misses; noRule = none; evictions = evictions })) r ⌝ }
 {
-    let fifth = with_number(line::empty(), evictions, NEWLINE);
+    let fifth = with_number(text::empty(), evictions, NEWLINE);
     let fourth = with_number(fifth, none, SPACE);
     let third = with_number(fourth, misses, SPACE);
     let second = with_number(third, hits, SPACE);
@@ -63,7 +66,7 @@ pub fn totals_line(packets: u64, hits: u64, misses: u64, none: u64, evictions: u
 pub fn refusal_line(refusal: Refusal) -> Line
     ensures { λ r. ⌜ Says (refusalLine (refusal .number) (refusal .place)) r ⌝ }
 {
-    let place = with_number(line::empty(), refusal.place as u64, NEWLINE);
+    let place = with_number(text::empty(), refusal.place as u64, NEWLINE);
     let number = with_number(place, wide32(refusal.number), SPACE);
     with_text(number, b"refused ")
 }

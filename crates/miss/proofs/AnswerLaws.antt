@@ -14,22 +14,22 @@ use Rattle.checks.specs.declared.refusal.Refusal.{Refusal}
 use Rattle.checks.specs.declared.refusal.Parts.{Parts}
 use Rattle.checks.specs.declared.refusal.Parts.the-variants.{Refused as PartRefused, Fine as PartsFine}
 use Rattle.checks.proofs.RefusalLaws.{parts-refused, parts-none}
-use Rattle.slots.specs.Slots.{slots, putSlot}
-use Rattle.messages.specs.Writes.{encodeWrite}
-use Rattle.messages.specs.Structs.{asWrite}
-use Rattle.outcomes.specs.Outcomes.{asOutcome, givesWrite, placesEntry}
-use Rattle.outcomes.proofs.OutcomeLaws.{quiet-places}
+use Rattle.end_records.specs.Slots.{slots, putSlot}
+use Rattle.end_records.specs.Writes.{encodeWrite}
+use Rattle.end_records.specs.MessageStructs.{asWrite}
+use Rattle.records.specs.Outcomes.{asOutcome, givesWrite, placesEntry}
+use Rattle.records.proofs.OutcomeLaws.{quiet-places}
 use Rattle.policy.proofs.CheckLaws.{passed-few}
-use Rattle.parts.specs.Parts.{partsRefusal}
-use Rattle.parts.proofs.PartLaws.{parts-fine}
-use Rattle.decisions.specs.Decided.{deciding, DecidedAs}
-use Rattle.verdict.specs.Decisions.{Fine}
-use Rattle.carrying.specs.Carrying.{answerOf, CarriedOut}
-use Rattle.carrying.specs.declared.MissAnswer.{MissAnswer}
-use Rattle.carrying.specs.declared.MissAnswer.the-variants.{Refused}
-use Rattle.carrying.proofs.OutcomeLaws.{none-quiet, full-quiet, again-given, entry-given}
+use Rattle.policy.specs.Parts.{partsRefusal}
+use Rattle.policy.proofs.PartLaws.{parts-fine}
+use Rattle.miss.specs.Decided.{deciding, DecidedAs}
+use Rattle.miss.specs.Decisions.{Fine}
+use Rattle.miss.specs.Carrying.{answerOf, CarriedOut}
+use Rattle.miss.specs.declared.carry.MissAnswer.{MissAnswer}
+use Rattle.miss.specs.declared.carry.MissAnswer.the-variants.{Refused}
+use Rattle.miss.proofs.OutcomeLaws.{none-quiet, full-quiet, again-given, entry-given}
 use Rattle.miss.specs.Answers.{roomRefusal, missRefused, outWith, MissedAs, OnMiss, Missed}
-use Rattle.decisions.specs.declared.Decision.{Decision}
+use Rattle.miss.specs.declared.decision.Decision.{Decision}
 
 -- ---- the parts that are lent
 

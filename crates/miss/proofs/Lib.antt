@@ -1,2 +1,9 @@
+-- Laws of the decisions about one slot.
+pub mod DecidedLaws
+-- Laws of the decision on a miss.
+pub mod DecisionLaws
+-- Laws of a decision that is carried out.
+pub mod OutcomeLaws
+pub mod CarryLaws
 -- Laws of a miss that arrives at the keeper.
 pub mod AnswerLaws

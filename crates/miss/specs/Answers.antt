@@ -15,13 +15,13 @@ use Rattle.buffers.specs.Parts.{splice}
 use Rattle.records.specs.Layout.{writeSize}
 use Rattle.checks.specs.Refusals.{orElse, need, unlessRefused}
 use Rattle.checks.specs.declared.refusal.Refusal.{Refusal}
-use Rattle.slots.specs.Slots.{slots, putSlot}
-use Rattle.messages.specs.Writes.{encodeWrite}
-use Rattle.parts.specs.Parts.{partsRefusal}
-use Rattle.decisions.specs.Decided.{deciding}
-use Rattle.verdict.specs.Decisions.{missIn}
-use Rattle.carrying.specs.Carrying.{answerOf}
-use Rattle.carrying.specs.declared.MissAnswer.{MissAnswer}
+use Rattle.end_records.specs.Slots.{slots, putSlot}
+use Rattle.end_records.specs.Writes.{encodeWrite}
+use Rattle.policy.specs.Parts.{partsRefusal}
+use Rattle.miss.specs.Decided.{deciding}
+use Rattle.miss.specs.Decisions.{missIn}
+use Rattle.miss.specs.Carrying.{answerOf}
+use Rattle.miss.specs.declared.carry.MissAnswer.{MissAnswer}
 
 -- ---- refusals
 

@@ -8,6 +8,5 @@ pub mod PolicyLaws
 pub mod RoundLaws
 pub mod Isolation
 pub mod SmallPolicy
--- for the proofs of code
 pub mod IsolateLaws
 pub mod BestLoop

@@ -19,10 +19,10 @@ use Rattle.records.proofs.RuleLaws.{rule-count, rule-at}
 use Rattle.checks.specs.declared.flaw.Flaw.the-variants.{Clean}
 use Rattle.checks.proofs.CleanLaws.{rule-clean}
 use Rattle.checks.proofs.RefusalLaws.{need-none}
-use Rattle.flawed.specs.Flawed.{ruleFlawAt}
-use Rattle.flawed.specs.declared.Checked.{Checked}
-use Rattle.flawed.specs.declared.Checked.the-variants.{AllClean, Flawed}
-use Rattle.flawed.proofs.FlawedLaws.{all-clean}
+use Rattle.checks.specs.Flawed.{ruleFlawAt}
+use Rattle.checks.specs.declared.flawed.Checked.{Checked}
+use Rattle.checks.specs.declared.flawed.Checked.the-variants.{AllClean, Flawed}
+use Rattle.checks.proofs.FlawedLaws.{all-clean}
 use Rattle.policy.specs.Refusals.{flawRefusal, policyRefusal, AcceptedBytes}
 
 flaw-none : (x : Checked) → flawRefusal x ≡ none → x ≡ AllClean

@@ -15,9 +15,9 @@ use Rattle.records.specs.Rules.{ruleCount, rules}
 use Rattle.checks.specs.Refusals.{refusal, need}
 use Rattle.checks.specs.Flaws.{Zeros, ruleSpares}
 use Rattle.checks.specs.declared.refusal.Refusal.{Refusal}
-use Rattle.flawed.specs.Flawed.{firstFlawed, ruleFlawAt}
-use Rattle.flawed.specs.declared.Checked.{Checked}
-use Rattle.flawed.specs.declared.Checked.the-variants.{AllClean, Flawed}
+use Rattle.checks.specs.Flawed.{firstFlawed, ruleFlawAt}
+use Rattle.checks.specs.declared.flawed.Checked.{Checked}
+use Rattle.checks.specs.declared.flawed.Checked.the-variants.{AllClean, Flawed}
 
 -- 3, with the place of the first flawed record
 abbrev pub flawRefusal : Checked → Option Refusal

@@ -1,4 +1,8 @@
 // The policy that a caller lends: its check, and the fields of its rules.
+pub mod lent;
+pub mod record;
+pub mod search;
+
 use checks::refusal;
 use checks::refusal::Refusal;
 use records::layout;
@@ -31,9 +35,9 @@ pub fn check(policy: &[u8]) -> PolicyAnswer
             place: 0,
         });
     }
-    match flawed::first_flawed_rule(policy) {
-        flawed::Checked::AllClean => PolicyAnswer::Rules(policy.len() / layout::RULE_SIZE),
-        flawed::Checked::Flawed(i, _) => PolicyAnswer::Refused(Refusal {
+    match checks::flawed::first_flawed_rule(policy) {
+        checks::flawed::Checked::AllClean => PolicyAnswer::Rules(policy.len() / layout::RULE_SIZE),
+        checks::flawed::Checked::Flawed(i, _) => PolicyAnswer::Refused(Refusal {
             number: refusal::BAD_RECORD,
             place: i,
         }),

@@ -3,3 +3,5 @@ pub mod Layout
 pub mod Rules
 pub mod Traces
 pub mod Structs
+-- What a run tells of each packet: what the bytes mean, and the bytes of a meaning.
+pub mod Outcomes

@@ -1,5 +1,7 @@
-// The records that a caller lends: where each field stands; rules and traces, read where they lie.
+// Every offset, size and limit; rules, traces and outcomes, read where they lie.
+pub mod kinds;
 pub mod layout;
+pub mod outcome;
 pub mod row;
 pub mod rule;
 pub mod trace;

@@ -2,15 +2,15 @@
 use libc::STDOUT_FILENO;
 ghost use Prim.Native.Nat.{_≤_};
 ghost use lib.ListN.{length};
-ghost use Rattle.printed.specs.Text.{mostText};
+ghost use Rattle.replay_text.specs.Text.{mostText};
 ghost use Rattle.io.specs.Counts.{Counts};
 
 // One byte more than each file may have: a longer file is seen to be longer, and an endless one is read no further.
-const SLOTS_ROOM: usize = slots_text::MOST + 1;
+const SLOTS_ROOM: usize = lines::slots_text::MOST + 1;
 
-const POLICY_ROOM: usize = replay::MOST_POLICY_BYTES + 1;
+const POLICY_ROOM: usize = replay_text::files::MOST_POLICY_BYTES + 1;
 
-const TRACE_ROOM: usize = replay::MOST_TRACE_BYTES + 1;
+const TRACE_ROOM: usize = replay_text::files::MOST_TRACE_BYTES + 1;
 
 // What one read gave: whether it worked, and how many bytes came, 0 at the file's end.
 struct Got {
@@ -72,7 +72,7 @@ fn read_file(path: &[u8], buf: &mut [u8]) -> usize
 fn print_in(slots: &[u8], policy: &[u8], trace: &[u8], text: &mut [u8])
     requires { ⌜ mostText ≤ length (now text) ⌝ }
 {
-    let n = printed::text(slots, policy, trace, text);
+    let n = replay_text::text(slots, policy, trace, text);
     if !io::write_all(STDOUT_FILENO, &text[..n]) {
         os::fail(b"standard output");
     }
@@ -88,8 +88,8 @@ fn trace_room() -> [u8; TRACE_ROOM] {
     [0; TRACE_ROOM]
 }
 
-fn text_room() -> [u8; printed::MOST_TEXT] {
-    [0; printed::MOST_TEXT]
+fn text_room() -> [u8; replay_text::MOST_TEXT] {
+    [0; replay_text::MOST_TEXT]
 }
 
 // The same, with room for every text.

@@ -1,6 +1,8 @@
--- Laws of slots: decoding and encoding undo each other, to put a slot is to set it, and fields in place.
-pub mod SlotLaws
-pub mod InPlace
-pub mod FitLaws
-pub mod ByteSlots
-pub mod SlotBytes
+-- Laws of the search for a slot that takes a key.
+pub mod HoldingLaws
+-- Laws of a write's storing.
+pub mod StoreLaws
+-- Laws of the keeper's slots: the loops that find the largest sequence and the room.
+pub mod RoomLaws
+-- Laws of taking a report.
+pub mod SettlingLaws

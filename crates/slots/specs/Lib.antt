@@ -1,4 +1,11 @@
--- The slots of an end: what the bytes mean, and the bytes of a meaning.
-pub mod Slots
-pub mod Refusals
-pub mod Structs
+-- What the search for a slot that takes a key answers.
+pub mod Holding
+-- What it is to put an entry into its slot, and to store a write.
+pub mod Puts
+pub mod Stores
+-- What a slot is with one hit more, in the bytes of its table.
+pub mod Hits
+-- The room for a new entry.
+pub mod Room
+-- What a report that is taken changes in the keeper's buffer.
+pub mod Settling

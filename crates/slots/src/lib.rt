@@ -1,4 +1,7 @@
-// The slots of an end, in the buffer that its owner lends.
-pub mod buffer;
-pub mod fields;
-pub mod slot;
+// What the two ends do with slots: find one for a key, store an entry, count a hit, settle, find room for a new entry.
+pub mod choose;
+pub mod entry;
+pub mod find;
+pub mod hits;
+pub mod settle;
+pub mod store;

@@ -1,2 +1,3 @@
-// The table looks a key up.
-pub mod lookup;
+// The table looks a key up, and receives a write.
+pub mod lookups;
+pub mod writes;

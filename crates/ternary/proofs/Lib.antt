@@ -2,3 +2,10 @@
 pub mod ByteLaws
 pub mod PatternBytes
 pub mod RowLengths
+-- Laws of the bits of a pattern: counted, and under wildcards.
+pub mod CountLaws
+pub mod StrayBytes
+pub mod StrayLaws
+pub mod BitRowLengths
+-- Laws of a store that changes one bit of a row.
+pub mod StoreLaws

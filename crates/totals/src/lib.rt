@@ -1,13 +1,13 @@
 // The totals that runs advance.
-use outcomes::Outcome;
-use outcomes::kinds;
+use records::kinds;
+use records::outcome::Outcome;
 ghost use mathlib.Core.Path.{_≡_};
 ghost use mathlib.Core.List.{[], _∷_};
 ghost use Prim.Native.Nat.{_+_};
 ghost use lib.Dec.{eqb};
 ghost use Rattle.ends.specs.Totals.{isMiss, totalsAfter};
 ghost use Rattle.records.specs.Layout.{mostPackets};
-ghost use Rattle.outcomes.specs.Outcomes.{asOutcome};
+ghost use Rattle.records.specs.Outcomes.{asOutcome};
 ghost use Rattle.totals.specs.Sums.{asTotals, mostTotal, totalsFit, AtMost, One};
 
 // Packets, hits (outcome 1), misses (2 to 5), no rule (0) and evictions (3).

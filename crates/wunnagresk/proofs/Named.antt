@@ -8,11 +8,11 @@ use Rattle.buffers.specs.Parts.{chunk}
 use Rattle.records.specs.Layout.{ruleSize}
 use Rattle.checks.specs.declared.refusal.Refusal.{Refusal}
 use Rattle.checks.specs.Refusals.{unlessRefused}
-use Rattle.rule_records.specs.Answers.{recordRefusal, recordOf, recordAnswer, shownRecord}
-use Rattle.decision.specs.Answers.{partOf, showAnswer, shownPart}
-use Rattle.decision.specs.declared.ShowAnswer.{ShowAnswer}
-use Rattle.decision.specs.declared.ShowAnswer.the-variants.{Refused, NoRule, FromTable, FromPolicy}
-use Rattle.part_answers.specs.Parts.{recordNumbers, shownNumbers}
+use Rattle.policy.specs.RecordAnswers.{recordRefusal, recordOf, recordAnswer, shownRecord}
+use Rattle.show.specs.Answers.{partOf, showAnswer, shownPart}
+use Rattle.show.specs.declared.ShowAnswer.{ShowAnswer}
+use Rattle.show.specs.declared.ShowAnswer.the-variants.{Refused, NoRule, FromTable, FromPolicy}
+use Rattle.c_answers.specs.Parts.{recordNumbers, shownNumbers}
 use Rattle.wunnagresk.specs.Named.{shownAt, recordAt, NamedParts}
 
 of-answer : (policy table : List ℕ) (a : ShowAnswer) → shownAt policy table (shownNumbers a) ≡ partOf policy table a

@@ -7,24 +7,24 @@ use Rattle.ends.specs.Ends.{missWrite}
 use Rattle.ends.specs.Trace.{missOutcome}
 use Rattle.ternary.specs.Sizes.{keySize}
 use Rattle.buffers.specs.Parts.{splice}
-use Rattle.slots.specs.Slots.{slots}
-use Rattle.messages.specs.Reports.{decodeReport}
-use Rattle.numbers.specs.Written.{numberBytes}
-use Rattle.numbers.specs.Answers.{answerOf as listAnswerOf}
+use Rattle.end_records.specs.Slots.{slots}
+use Rattle.end_records.specs.Reports.{decodeReport}
+use Rattle.lists.specs.Written.{numberBytes}
+use Rattle.lists.specs.Answers.{answerOf as listAnswerOf}
 use Rattle.checks.specs.Refusals.{unlessRefused}
-use Rattle.settling.specs.Settling.{reportBytes}
+use Rattle.slots.specs.Settling.{reportBytes}
 use Rattle.keeper.specs.Reports.{reportRefused, reportAnswer}
-use Rattle.open_slots.specs.Opens.{openIn, openRefusal}
-use Rattle.decisions.specs.Decided.{deciding}
-use Rattle.verdict.specs.Decisions.{missIn}
-use Rattle.carrying.specs.Carrying.{answerOf as missAnswerOf}
-use Rattle.carrying.specs.declared.MissAnswer.{MissAnswer}
+use Rattle.keeper.specs.Opens.{openIn, openRefusal}
+use Rattle.miss.specs.Decided.{deciding}
+use Rattle.miss.specs.Decisions.{missIn}
+use Rattle.miss.specs.Carrying.{answerOf as missAnswerOf}
+use Rattle.miss.specs.declared.carry.MissAnswer.{MissAnswer}
 use Rattle.miss.specs.Answers.{missRefused, missBytes, outWith}
-use Rattle.keeper_answers.specs.Keeper.{outcomeNumbers, reportedNumbers}
-use Rattle.list_answers.specs.Lists.{listNumbers}
-use Rattle.answers.specs.declared.structs.WgCount.{WgCount}
-use Rattle.answers.specs.declared.structs.WgDone.{WgDone}
-use Rattle.answers.specs.declared.structs.WgOutcome.{WgOutcome}
+use Rattle.c_answers.specs.Keeper.{outcomeNumbers, reportedNumbers}
+use Rattle.c_answers.specs.Lists.{listNumbers}
+use Rattle.c_answers.specs.declared.structs.WgCount.{WgCount}
+use Rattle.c_answers.specs.declared.structs.WgDone.{WgDone}
+use Rattle.c_answers.specs.declared.structs.WgOutcome.{WgOutcome}
 
 -- the refusal, or the model's outcome
 abbrev pub missAnswer : List ℕ → List ℕ → List ℕ → ℕ → MissAnswer

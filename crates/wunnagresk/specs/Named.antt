@@ -5,11 +5,11 @@ use mathlib.Core.List.{List, []}
 use Prim.Native.Nat.{ℕ}
 use lib.Dec.{eqb}
 use Rattle.buffers.specs.Parts.{part}
-use Rattle.rule_records.specs.Answers.{recordAnswer, shownRecord}
-use Rattle.decision.specs.Answers.{showAnswer, shownPart}
-use Rattle.part_answers.specs.Parts.{recordNumbers, shownNumbers}
-use Rattle.answers.specs.declared.structs.WgPart.{WgPart}
-use Rattle.answers.specs.declared.structs.WgShown.{WgShown}
+use Rattle.policy.specs.RecordAnswers.{recordAnswer, shownRecord}
+use Rattle.show.specs.Answers.{showAnswer, shownPart}
+use Rattle.c_answers.specs.Parts.{recordNumbers, shownNumbers}
+use Rattle.c_answers.specs.declared.structs.WgPart.{WgPart}
+use Rattle.c_answers.specs.declared.structs.WgShown.{WgShown}
 
 -- source 1 is the table, 2 the policy
 abbrev pub bufferOf : ℕ → List ℕ → List ℕ → List ℕ

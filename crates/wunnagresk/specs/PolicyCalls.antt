@@ -5,11 +5,11 @@ use Prim.Native.Nat.{ℕ}
 use lib.ListN.{length}
 use Rattle.buffers.specs.Parts.{splice}
 use Rattle.checks.specs.Refusals.{unlessRefused}
-use Rattle.numbers.specs.Written.{numberBytes}
-use Rattle.numbers.specs.Answers.{answerOf}
+use Rattle.lists.specs.Written.{numberBytes}
+use Rattle.lists.specs.Answers.{answerOf}
 use Rattle.cover.specs.Answers.{coverRefusal, coverList}
-use Rattle.list_answers.specs.Lists.{listNumbers}
-use Rattle.answers.specs.declared.structs.WgCount.{WgCount}
+use Rattle.c_answers.specs.Lists.{listNumbers}
+use Rattle.c_answers.specs.declared.structs.WgCount.{WgCount}
 
 pub record CoverCall (policy : List ℕ) (number : ℕ) (out : List ℕ) (r : WgCount) (out′ : List ℕ) : Type 0 where
   pub numbers : r ≡ listNumbers (answerOf (coverRefusal policy number (length out)) (length (coverList policy number)))

@@ -4,10 +4,10 @@ use mathlib.Core.List.{List}
 use Prim.Native.Nat.{ℕ}
 use lib.ListN.{length}
 use Rattle.table.specs.Lookups.{lookupAnswer, tableAfterLookup, outAfterLookup}
-use Rattle.received.specs.Writes.{writeCallRefusal, takenOf, tableAfterWrite, outAfterWrite}
-use Rattle.table_answers.specs.Table.{foundNumbers, writtenNumbers}
-use Rattle.answers.specs.declared.structs.WgDone.{WgDone}
-use Rattle.answers.specs.declared.structs.WgFound.{WgFound}
+use Rattle.table.specs.Writes.{writeCallRefusal, takenOf, tableAfterWrite, outAfterWrite}
+use Rattle.c_answers.specs.Table.{foundNumbers, writtenNumbers}
+use Rattle.c_answers.specs.declared.structs.WgDone.{WgDone}
+use Rattle.c_answers.specs.declared.structs.WgFound.{WgFound}
 
 pub record LookupCall (key table out : List ℕ) (r : WgFound) (table′ out′ : List ℕ) : Type 0 where
   pub numbers : r ≡ foundNumbers (lookupAnswer key table (length out))

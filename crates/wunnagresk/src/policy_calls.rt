@@ -1,17 +1,17 @@
 // The calls about a policy for C.
-use answers::structs::WgBestAnswer;
-use answers::structs::WgCount;
-use answers::structs::WgIsolated;
-use answers::structs::WgPart;
-use answers::structs::WgShown;
+use c_answers::structs::WgBestAnswer;
+use c_answers::structs::WgCount;
+use c_answers::structs::WgIsolated;
+use c_answers::structs::WgPart;
+use c_answers::structs::WgShown;
 ghost use mathlib.Core.Path.{_≡_};
 ghost use Rattle.policy.specs.Answers.{checkAnswer};
-ghost use Rattle.rule_records.specs.Answers.{recordAnswer};
-ghost use Rattle.best.specs.Answers.{bestAnswer};
-ghost use Rattle.decision.specs.Answers.{showAnswer};
-ghost use Rattle.policy_answers.specs.Policy.{checkedNumbers, bestNumbers};
-ghost use Rattle.part_answers.specs.Parts.{recordNumbers, shownNumbers};
-ghost use Rattle.isolate_answers.specs.IsolateCalls.{IsolateCall};
+ghost use Rattle.policy.specs.RecordAnswers.{recordAnswer};
+ghost use Rattle.policy.specs.BestAnswers.{bestAnswer};
+ghost use Rattle.show.specs.Answers.{showAnswer};
+ghost use Rattle.c_answers.specs.Policy.{checkedNumbers, bestNumbers};
+ghost use Rattle.c_answers.specs.Parts.{recordNumbers, shownNumbers};
+ghost use Rattle.c_answers.specs.IsolateCalls.{IsolateCall};
 ghost use Rattle.wunnagresk.specs.PolicyCalls.{CoverCall};
 
 // Checks a policy, and counts its rules.
@@ -19,7 +19,7 @@ ghost use Rattle.wunnagresk.specs.PolicyCalls.{CoverCall};
 pub extern "C" fn wg_check(policy: &[u8]) -> WgCount
     ensures { λ r. ⌜ r ≡ checkedNumbers (checkAnswer (now (policy .entry))) ⌝ }
 {
-    policy_answers::checked_numbers(policy::check(policy))
+    c_answers::policy_for_c::checked_numbers(policy::check(policy))
 }
 
 // The best rule of a key.
@@ -27,7 +27,7 @@ pub extern "C" fn wg_check(policy: &[u8]) -> WgCount
 pub extern "C" fn wg_best(policy: &[u8], key: &[u8]) -> WgBestAnswer
     ensures { λ r. ⌜ r ≡ bestNumbers (bestAnswer (now (policy .entry)) (now (key .entry))) ⌝ }
 {
-    policy_answers::best_numbers(best::best(policy, key))
+    c_answers::policy_for_c::best_numbers(policy::search::best(policy, key))
 }
 
 // Where the record of that number lies in the policy.
@@ -35,7 +35,7 @@ pub extern "C" fn wg_best(policy: &[u8], key: &[u8]) -> WgBestAnswer
 pub extern "C" fn wg_rule(policy: &[u8], number: usize) -> WgPart
     ensures { λ r. ⌜ r ≡ recordNumbers (recordAnswer (now (policy .entry)) number) number ⌝ }
 {
-    part_answers::record_numbers(policy, number)
+    c_answers::part_for_c::record_numbers(policy, number)
 }
 
 // Writes the cover list of a rule to the start of `out`, two bytes a number.
@@ -43,7 +43,7 @@ pub extern "C" fn wg_rule(policy: &[u8], number: usize) -> WgPart
 pub extern "C" fn wg_cover(policy: &[u8], number: usize, out: &mut [u8]) -> WgCount
     ensures { λ r. ⌜ CoverCall (now (policy .entry)) number (now (out .entry)) r (now (out .exit)) ⌝ }
 {
-    list_answers::list_numbers(cover::cover(policy, number, out))
+    c_answers::list_for_c::list_numbers(cover::cover(policy, number, out))
 }
 
 // Isolates the key's best rule, and writes its pattern to the start of `out`, value then mask.
@@ -51,7 +51,7 @@ pub extern "C" fn wg_cover(policy: &[u8], number: usize, out: &mut [u8]) -> WgCo
 pub extern "C" fn wg_isolate(policy: &[u8], key: &[u8], number: usize, out: &mut [u8]) -> WgIsolated
     ensures { λ r. ⌜ IsolateCall (now (policy .entry)) (now (key .entry)) number (now (out .entry)) r (now (out .exit)) ⌝ }
 {
-    isolate_answers::isolate_with(policy, key, number, out)
+    c_answers::isolate_for_c::isolate_with(policy, key, number, out)
 }
 
 // Which record decides for a key, and where it lies.
@@ -59,5 +59,5 @@ pub extern "C" fn wg_isolate(policy: &[u8], key: &[u8], number: usize, out: &mut
 pub extern "C" fn wg_show(policy: &[u8], key: &[u8], table: &[u8]) -> WgShown
     ensures { λ r. ⌜ r ≡ shownNumbers (showAnswer (now (policy .entry)) (now (key .entry)) (now (table .entry))) ⌝ }
 {
-    part_answers::shown_numbers(decision::show_answer(policy, key, table))
+    c_answers::part_for_c::shown_numbers(show::show_answer(policy, key, table))
 }

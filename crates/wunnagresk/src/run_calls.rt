@@ -1,7 +1,7 @@
 // The run for C.
-use answers::structs::WgCount;
+use c_answers::structs::WgCount;
 use totals::Totals;
-ghost use Rattle.run_answers.specs.RunCalls.{RunCall};
+ghost use Rattle.c_answers.specs.RunCalls.{RunCall};
 
 // Runs a trace, and advances the totals in place; an outcome of 12 bytes for each packet goes to the start of `out`.
 #[no_mangle]
@@ -16,7 +16,7 @@ pub extern "C" fn wg_run(
     ensures { λ r. ⌜ RunCall (now (policy .entry)) (now (trace .entry)) (now (table .entry)) (now (keeper .entry)) (now (out .entry))
         (now (totals .entry)) r (now (totals .exit)) (now (table .exit)) (now (keeper .exit)) (now (out .exit)) ⌝ }
 {
-    let told = run_answers::run_with(policy, trace, table, keeper, out, *totals);
+    let told = c_answers::run_for_c::run_with(policy, trace, table, keeper, out, *totals);
     *totals = told.totals;
     told.numbers
 }

@@ -1,7 +1,7 @@
 -- `lines::outcome_line` meets its contract: the fields of the decoded outcome, each before the line so far. Assumes nothing.
 use borrow.Author.Needs.{needs}
 use Rattle.lines.specs.Printed.{outcomeLine}
-use Rattle.line.proofs.LineLaws.{put-word}
+use Rattle.text.proofs.LineLaws.{put-word}
 use Rattle.lines.proofs.outcome_line.Statement.{statement}
 use Rattle.lines.proofs.outcome_line.Tie as tie
 

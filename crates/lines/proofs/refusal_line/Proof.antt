@@ -2,7 +2,7 @@
 use borrow.Author.Needs.{needs}
 use mathlib.Core.List.{[], _∷_, _++_}
 use Rattle.lines.specs.Printed.{refusalLine, refusedWord, space}
-use Rattle.line.proofs.LineLaws.{put-word, put-text}
+use Rattle.text.proofs.LineLaws.{put-word, put-text}
 use Rattle.lines.proofs.refusal_line.Statement.{statement}
 use Rattle.lines.proofs.refusal_line.Tie as tie
 

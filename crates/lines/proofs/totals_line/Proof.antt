@@ -1,7 +1,7 @@
 -- `lines::totals_line` meets its contract: five numbers, each before the line so far. Assumes nothing.
 use borrow.Author.Needs.{needs}
 use Rattle.lines.specs.Printed.{totalsLine}
-use Rattle.line.proofs.LineLaws.{put-word}
+use Rattle.text.proofs.LineLaws.{put-word}
 use Rattle.lines.proofs.totals_line.Statement.{statement}
 use Rattle.lines.proofs.totals_line.Tie as tie
 

@@ -1,6 +1,6 @@
 -- `replay_files::print_in` is safe: what is written lies in the output. Assumes what `libc` says of the C functions called.
 use borrow.Author.Needs.{needs}
-use Rattle.listing.proofs.PutLaws.{counts}
+use Rattle.lines.proofs.PutLaws.{counts}
 use Rattle.replay_files.proofs.print_in.Statement.{statement}
 use Rattle.replay_files.proofs.print_in.Tie as tie
 

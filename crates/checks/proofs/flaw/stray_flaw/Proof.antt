@@ -5,8 +5,8 @@ use mathlib.Core.Option.{none, some}
 use native.Mathlib.Omega.{arith}
 use native.Mathlib.Nat.{add-sub-cancel-left}
 use Rattle.model.specs.Pattern.{firstStray}
-use Rattle.bits.specs.Strays.{strayOf}
-use Rattle.bits.proofs.StrayLaws.{of-clean, of-stray}
+use Rattle.ternary.specs.Strays.{strayOf}
+use Rattle.ternary.proofs.StrayLaws.{of-clean, of-stray}
 use Rattle.buffers.specs.Parts.{part}
 use Rattle.ternary.specs.Sizes.{keySize}
 use Rattle.buffers.proofs.PartLaws.{part-length}

@@ -3,7 +3,7 @@ use borrow.Author.Needs.{needs}
 use mathlib.Core.Path.{_≡_, sym, _∙_}
 use mathlib.Core.Option.{none}
 use Rattle.model.proofs.Cases.{not-true, not-false}
-use Rattle.slots.specs.Refusals.{slotsRefusal}
+use Rattle.checks.specs.BufferRefusals.{slotsRefusal}
 use Rattle.keeper.specs.Reports.{bytesRefusal, reportRefused, reportAnswer}
 use Rattle.keeper.proofs.ReportLaws.{of-refused, of-taken, bytes-long}
 use Rattle.keeper.proofs.reports.may_report.Statement.{statement}

@@ -1,7 +1,7 @@
 -- `wunnagresk::keeper_calls::wg_miss` meets its contract: the inner call's answer as numbers, its buffers as they are. Assumes nothing.
 use borrow.Author.Needs.{needs}
 use mathlib.Core.Path.{ap, _∙_}
-use Rattle.keeper_answers.specs.Keeper.{outcomeNumbers}
+use Rattle.c_answers.specs.Keeper.{outcomeNumbers}
 use Rattle.wunnagresk.proofs.keeper_calls.wg_miss.Statement.{statement}
 use Rattle.wunnagresk.proofs.keeper_calls.wg_miss.Tie as tie
 

@@ -1,7 +1,7 @@
 -- `wunnagresk::keeper_calls::wg_report` meets its contract: the inner call's answer as numbers, its buffers as they are. Assumes nothing.
 use borrow.Author.Needs.{needs}
 use mathlib.Core.Path.{ap, _∙_}
-use Rattle.keeper_answers.specs.Keeper.{reportedNumbers}
+use Rattle.c_answers.specs.Keeper.{reportedNumbers}
 use Rattle.wunnagresk.proofs.keeper_calls.wg_report.Statement.{statement}
 use Rattle.wunnagresk.proofs.keeper_calls.wg_report.Tie as tie
 

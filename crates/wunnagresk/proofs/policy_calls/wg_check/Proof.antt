@@ -1,7 +1,7 @@
 -- `wunnagresk::policy_calls::wg_check` meets its contract: the inner call's answer as numbers. Assumes nothing.
 use borrow.Author.Needs.{needs}
 use mathlib.Core.Path.{ap, _∙_}
-use Rattle.policy_answers.specs.Policy.{checkedNumbers}
+use Rattle.c_answers.specs.Policy.{checkedNumbers}
 use Rattle.wunnagresk.proofs.policy_calls.wg_check.Statement.{statement}
 use Rattle.wunnagresk.proofs.policy_calls.wg_check.Tie as tie
 

@@ -1,7 +1,7 @@
 -- `wunnagresk::policy_calls::wg_cover` meets its contract: the inner call's answer as numbers, its buffers as they are. Assumes nothing.
 use borrow.Author.Needs.{needs}
 use mathlib.Core.Path.{ap, _∙_}
-use Rattle.list_answers.specs.Lists.{listNumbers}
+use Rattle.c_answers.specs.Lists.{listNumbers}
 use Rattle.wunnagresk.proofs.policy_calls.wg_cover.Statement.{statement}
 use Rattle.wunnagresk.proofs.policy_calls.wg_cover.Tie as tie
 

@@ -1,7 +1,7 @@
 -- `wunnagresk::policy_calls::wg_show` meets its contract: the inner call's answer as numbers. Assumes nothing.
 use borrow.Author.Needs.{needs}
 use mathlib.Core.Path.{ap, _∙_}
-use Rattle.part_answers.specs.Parts.{shownNumbers}
+use Rattle.c_answers.specs.Parts.{shownNumbers}
 use Rattle.wunnagresk.proofs.policy_calls.wg_show.Statement.{statement}
 use Rattle.wunnagresk.proofs.policy_calls.wg_show.Tie as tie
 

@@ -1,7 +1,7 @@
 -- `wunnagresk::table_calls::wg_write` meets its contract: the inner call's answer as numbers, its buffers as they are. Assumes nothing.
 use borrow.Author.Needs.{needs}
 use mathlib.Core.Path.{ap, _∙_}
-use Rattle.table_answers.specs.Table.{writtenNumbers}
+use Rattle.c_answers.specs.Table.{writtenNumbers}
 use Rattle.wunnagresk.proofs.table_calls.wg_write.Statement.{statement}
 use Rattle.wunnagresk.proofs.table_calls.wg_write.Tie as tie
 

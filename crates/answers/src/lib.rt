@@ -1,2 +1,0 @@
-// The structs that C reads.
-pub mod structs;

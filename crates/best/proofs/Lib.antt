@@ -1,2 +1,0 @@
--- Laws of the best rule, for its callers.
-pub mod BestLaws

@@ -1,3 +1,0 @@
--- Laws of a decision that is carried out.
-pub mod OutcomeLaws
-pub mod CarryLaws

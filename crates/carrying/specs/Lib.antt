@@ -1,2 +1,0 @@
--- A decision on a miss, carried out: what it leaves in the buffers.
-pub mod Carrying

@@ -1,0 +1,29 @@
+-- How an end's buffer of slots is refused. Assumes nothing.
+use mathlib.Core.Path.{_≡_}
+use mathlib.Core.Bool.{Bool, _&&_}
+use mathlib.Core.List.{List}
+use mathlib.Core.Option.{Option, none}
+use Prim.Native.Nat.{ℕ, _*_, _%_, _≤_}
+use lib.Dec.{leb, eqb}
+use lib.ListN.{length}
+use Rattle.model.specs.Refusals.{badSlots}
+use Rattle.ternary.specs.Sizes.{keySize}
+use Rattle.records.specs.Layout.{slotSize, mostSlots}
+use Rattle.checks.specs.Refusals.{need}
+use Rattle.checks.specs.declared.refusal.Refusal.{Refusal}
+use Rattle.end_records.specs.Slots.{slotCount}
+
+-- whole slots, at least 1, and at most 256
+unfoldable pub slotsFit : List ℕ → Bool
+slotsFit bs =
+    eqb (length bs % slotSize keySize) 0 && (leb 1 (slotCount keySize bs) && leb (slotCount keySize bs) mostSlots)
+
+-- 4: not such a buffer
+unfoldable pub slotsRefusal : List ℕ → Option Refusal
+slotsRefusal bs = need (slotsFit bs) badSlots none
+
+-- what a buffer that is not refused is
+pub record WholeSlots (bs : List ℕ) : Type 0 where
+  pub whole : length bs ≡ slotSize keySize * slotCount keySize bs
+  pub some-there : 1 ≤ slotCount keySize bs
+  pub few-there : slotCount keySize bs ≤ mostSlots

@@ -1,2 +1,0 @@
--- Laws of the decisions about one slot.
-pub mod DecidedLaws

@@ -1,2 +1,0 @@
--- A decision on a miss, by value.
-pub mod Decided

@@ -1,2 +1,0 @@
--- Laws of a write's storing.
-pub mod StoreLaws

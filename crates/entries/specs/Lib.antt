@@ -1,3 +1,0 @@
--- What it is to put an entry into its slot, and to store a write.
-pub mod Puts
-pub mod Stores

@@ -1,2 +1,0 @@
--- Laws of a store that changes one bit of a row.
-pub mod StoreLaws

@@ -1,2 +1,0 @@
--- What it is to fix a position of a pattern.
-pub mod Fixed

@@ -1,2 +1,0 @@
--- Laws of the first flawed record.
-pub mod FlawedLaws

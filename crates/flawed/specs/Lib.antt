@@ -1,2 +1,0 @@
--- The first flawed record.
-pub mod Flawed

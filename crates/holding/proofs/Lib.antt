@@ -1,2 +1,0 @@
--- Laws of the search for a slot that takes a key.
-pub mod HoldingLaws

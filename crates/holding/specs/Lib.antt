@@ -1,2 +1,0 @@
--- What the search for a slot that takes a key answers.
-pub mod Holding

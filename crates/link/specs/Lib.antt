@@ -1,5 +1,0 @@
--- The two ends as bytes, the calls on them in any order, and what holds whatever the link does.
-pub mod Calls
-pub mod Promise
-pub mod RunPromise
-pub mod AnyCall

@@ -1,2 +1,0 @@
--- Lines in a lent output.
-pub mod Listing

@@ -1,3 +1,0 @@
--- Laws of messages: decoding and encoding undo each other.
-pub mod WriteLaws
-pub mod ReportLaws

@@ -1,4 +1,0 @@
--- What the two ends send each other: what the bytes mean, and the bytes of a meaning.
-pub mod Writes
-pub mod Reports
-pub mod Structs

@@ -1,0 +1,94 @@
+// What a miss comes to, by value: nothing is written yet.
+use crate::decision::Decision;
+use end_records::write::Write;
+use lists::wide;
+use records::kinds;
+use records::layout;
+use slots::find::Holding;
+ghost use mathlib.Core.Path.{_≡_};
+ghost use mathlib.Core.Option.{none, some};
+ghost use Prim.Native.Nat.{suc};
+ghost use Rattle.ends.specs.Ends.{largest};
+ghost use Rattle.ternary.specs.Sizes.{keySize};
+ghost use Rattle.end_records.specs.Slots.{slots};
+ghost use Rattle.checks.specs.BufferRefusals.{WholeSlots};
+ghost use Rattle.miss.specs.Decided.{DecidedAs};
+ghost use Rattle.miss.specs.Decisions.{Fine, RuleFor, placeMiss, missWith, ruleMiss, missIn};
+
+// The decision that the rule goes, isolated for the key, to the slot for a new entry, under that sequence.
+fn new_entry(
+    policy: &[u8],
+    key: &[u8],
+    keeper: &[u8],
+    number: u16,
+    action: u16,
+    sequence: u32,
+) -> Decision
+    requires { ⌜ RuleFor (now policy) (now key) number action × WholeSlots (now keeper) ×
+        (sequence ≡ suc (largest (slots keySize (now keeper)))) ⌝ }
+    ensures { λ r. ⌜ DecidedAs (now (policy .entry)) (now (keeper .entry))
+        (placeMiss (now (policy .entry)) (now (key .entry)) (now (keeper .entry)) number) r ⌝ }
+{
+    let pattern = isolate::rounds::isolate_best(policy, key, wide(number));
+    let i = slots::choose::room(keeper);
+    let value = pattern.value;
+    let mask = pattern.mask;
+    Decision {
+        outcome: crate::decision::placed_outcome(keeper, i, action, number),
+        write: Write {
+            slot: i as u16,
+            sequence,
+            value,
+            mask,
+            action,
+            rule: number,
+        },
+    }
+}
+
+// The decision for a rule whose key no slot takes: used up, or an entry is placed.
+fn fresh_entry(policy: &[u8], key: &[u8], keeper: &[u8], number: u16, action: u16) -> Decision
+    requires { ⌜ RuleFor (now policy) (now key) number action × WholeSlots (now keeper) ⌝ }
+    ensures { λ r. ⌜ DecidedAs (now (policy .entry)) (now (keeper .entry))
+        (missWith (now (policy .entry)) (now (key .entry)) (now (keeper .entry)) (some number) none) r ⌝ }
+{
+    let last = slots::choose::largest_sequence(keeper);
+    if last == layout::TOP {
+        return crate::decision::no_write(kinds::USED_UP, action, number);
+    }
+    new_entry(policy, key, keeper, number, action, last + 1)
+}
+
+// The decision for a key whose best rule has that number and action.
+fn with_rule(policy: &[u8], key: &[u8], keeper: &[u8], number: u16, action: u16) -> Decision
+    requires { ⌜ RuleFor (now policy) (now key) number action × WholeSlots (now keeper) ⌝ }
+    ensures { λ r. ⌜ DecidedAs (now (policy .entry)) (now (keeper .entry))
+        (ruleMiss (now (policy .entry)) (now (key .entry)) (now (keeper .entry)) number) r ⌝ }
+{
+    match slots::find::first_holding(keeper, key) {
+        Holding::At(i) => crate::decision::write_again(keeper, i),
+        Holding::Nowhere => fresh_entry(policy, key, keeper, number, action),
+    }
+}
+
+// What a miss comes to, where none of its parts is refused.
+pub fn decide(policy: &[u8], key: &[u8], keeper: &[u8]) -> Decision
+    requires { ⌜ Fine (now policy) (now key) (now keeper) ⌝ }
+    ensures { λ r. ⌜ DecidedAs (now (policy .entry)) (now (keeper .entry))
+        (missIn (now (policy .entry)) (now (key .entry)) (now (keeper .entry))) r ⌝ }
+{
+    match policy::search::best_rule(policy, key) {
+        policy::search::BestFound::NoRule => crate::decision::no_write(
+            kinds::NO_RULE,
+            0,
+            kinds::NOTHING,
+        ),
+        policy::search::BestFound::Rule(number, action) => with_rule(
+            policy,
+            key,
+            keeper,
+            number,
+            action,
+        ),
+    }
+}

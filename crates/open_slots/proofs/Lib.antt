@@ -1,2 +1,0 @@
--- Laws of the open slots.
-pub mod OpenLaws

@@ -1,2 +1,0 @@
--- Laws of outcomes: decoding and encoding undo each other; which give a write, and which place its entry.
-pub mod OutcomeLaws

@@ -1,3 +1,0 @@
--- Laws of a packet's messages, each delivered at once.
-pub mod MissLaws
-pub mod HitLaws

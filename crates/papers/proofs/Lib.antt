@@ -1,2 +1,0 @@
--- What is computed of the papers' examples.
-pub mod Examples

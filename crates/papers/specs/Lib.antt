@@ -1,2 +1,0 @@
--- The source documents' worked examples, as the rules answer them.
-pub mod Examples

@@ -1,2 +1,0 @@
--- Where a record lies that is shown, as C is told it.
-pub mod Parts

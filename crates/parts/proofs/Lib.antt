@@ -1,2 +1,0 @@
--- What the tests of the parts say.
-pub mod PartLaws

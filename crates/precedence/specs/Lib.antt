@@ -1,2 +1,0 @@
--- Lists in order of precedence.
-pub mod Places

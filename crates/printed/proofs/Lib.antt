@@ -1,3 +1,0 @@
--- Laws of what is printed.
-pub mod RanLaws
-pub mod ClearedRun

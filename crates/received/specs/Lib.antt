@@ -1,2 +1,0 @@
--- The table receives a write: the answer, and what it leaves in the buffers.
-pub mod Writes

@@ -1,2 +1,0 @@
-// The table receives a write of the keeper.
-pub mod write;

@@ -1,2 +1,0 @@
--- Laws of the answer about the files.
-pub mod FileLaws

@@ -1,2 +1,0 @@
--- What the program's three files say.
-pub mod Files

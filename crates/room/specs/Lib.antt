@@ -1,2 +1,0 @@
--- The room for a new entry.
-pub mod Room

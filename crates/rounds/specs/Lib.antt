@@ -1,3 +1,0 @@
--- What the contracts on the rounds cite, above the model.
-pub mod Ready
-pub mod Structs

@@ -1,2 +1,0 @@
--- What the answer on a record tells its callers.
-pub mod RecordShown

@@ -1,2 +1,0 @@
--- What is answered about a rule's record.
-pub mod Answers

@@ -1,0 +1,37 @@
+-- How a run is refused, in the order of the tests. Assumes nothing.
+use mathlib.Core.Bool.{not}
+use mathlib.Core.List.{List}
+use mathlib.Core.Option.{Option, none, some}
+use Prim.Native.Nat.{ℕ, _*_, _%_}
+use lib.Dec.{leb, ltb, eqb}
+use lib.ListN.{length}
+use Rattle.ends.specs.Records.{Totals}
+use Rattle.model.specs.Refusals.{ragged, tooMany, lengthsDiffer, totalsFull, shortOutput}
+use Rattle.ternary.specs.Sizes.{keySize}
+use Rattle.records.specs.Layout.{traceSize, outcomeSize, mostPackets}
+use Rattle.records.specs.Traces.{packetCount}
+use Rattle.checks.specs.Refusals.{orElse, need}
+use Rattle.checks.specs.declared.refusal.Refusal.{Refusal}
+use Rattle.checks.specs.Flawed.{firstFlawed, traceFlawAt}
+use Rattle.checks.specs.BufferRefusals.{slotsRefusal}
+use Rattle.policy.specs.Refusals.{flawRefusal, policyRefusal}
+use Rattle.totals.specs.Sums.{totalsFit}
+
+-- trace 1, 2, 3
+unfoldable pub traceRefusal : List ℕ → Option Refusal
+traceRefusal bs =
+    need (eqb (length bs % traceSize keySize) 0) ragged
+    (need (not (ltb mostPackets (packetCount keySize bs))) tooMany (flawRefusal (firstFlawed (traceFlawAt keySize bs) (packetCount keySize bs))))
+
+-- table 4; keeper 4; 12
+unfoldable pub endsRefusal : List ℕ → List ℕ → Option Refusal
+endsRefusal table keeper =
+    orElse (slotsRefusal table) (orElse (slotsRefusal keeper) (need (eqb (length table) (length keeper)) lengthsDiffer none))
+
+-- policy 1, 2, 3; trace 1, 2, 3; table 4; keeper 4; 12; 13; 5, where the output has so much room
+unfoldable pub runRefusal : List ℕ → List ℕ → List ℕ → List ℕ → ℕ → Totals → Option Refusal
+runRefusal policy trace table keeper room t =
+    orElse (policyRefusal policy)
+    (orElse (traceRefusal trace)
+    (orElse (endsRefusal table keeper)
+    (need (totalsFit t) totalsFull (need (leb (outcomeSize * packetCount keySize trace) room) shortOutput none))))

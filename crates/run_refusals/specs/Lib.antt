@@ -1,2 +1,0 @@
--- How a run is refused.
-pub mod Refusals

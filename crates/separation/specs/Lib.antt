@@ -1,2 +1,0 @@
--- What the contracts on separating cite, above the model.
-pub mod Columns

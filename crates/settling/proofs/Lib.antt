@@ -1,2 +1,0 @@
--- Laws of taking a report.
-pub mod SettlingLaws

@@ -1,2 +1,0 @@
--- What a report that is taken changes in the keeper's buffer.
-pub mod Settling

@@ -1,2 +1,0 @@
--- One input admits one answer.
-pub mod Single

@@ -1,3 +1,0 @@
--- Laws of what slots.txt says.
-pub mod Reading
-pub mod SlotText

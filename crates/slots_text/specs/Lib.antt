@@ -1,2 +1,0 @@
--- What slots.txt says.
-pub mod Slots

@@ -1,2 +1,0 @@
--- What is computed of the small policy's cases.
-pub mod Cases

@@ -1,2 +1,0 @@
--- The small policy's cases, over its 96 bytes.
-pub mod Cases

@@ -1,2 +1,0 @@
--- Laws of a run's packets.
-pub mod StepLaws

@@ -1,2 +1,0 @@
--- The packets of a run, one after another.
-pub mod Steps

@@ -1,0 +1,109 @@
+-- Which writes are refused, and what one that is not comes to. Assumes nothing.
+use mathlib.Core.Path.{_≡_, refl}
+use mathlib.Core.Bool.{not}
+use mathlib.Core.List.{List}
+use mathlib.Core.Option.{Option, none, some}
+use mathlib.Core.Logic.{_↔_}
+use Prim.Native.Nat.{ℕ}
+use native.Mathlib.Omega.{arith}
+use lib.Dec.{leb, ltb, eqb}
+use lib.ListN.{length, getD}
+use borrow.Author.Tests.{leb-true, ltb-true, eqb-true, eqb-false, le-leb, lt-ltb, eq-eqb, ne-eqb}
+use Rattle.ends.specs.Records.{Slot, Write, reportFor}
+use Rattle.ends.specs.Ends.{writeReport}
+use Rattle.model.proofs.Cases.{not-true}
+use Rattle.ternary.specs.Sizes.{keySize}
+use Rattle.buffers.specs.Parts.{splice}
+use Rattle.records.specs.Layout.{writeKind, isWrite, writeSize, reportSize}
+use Rattle.checks.specs.Flaws.{isFlawed, writeFlaw}
+use Rattle.checks.specs.declared.refusal.Refusal.{Refusal}
+use Rattle.checks.proofs.CleanLaws.{clean-of}
+use Rattle.checks.proofs.RefusalLaws.{none-first, need-none}
+use Rattle.end_records.specs.Slots.{slotCount}
+use Rattle.checks.specs.BufferRefusals.{slotsRefusal}
+use Rattle.checks.proofs.FitLaws.{slots-accepted}
+use Rattle.end_records.specs.Writes.{decodeWrite}
+use Rattle.end_records.specs.Reports.{encodeReport}
+use Rattle.slots.specs.Stores.{Stored}
+use Rattle.table.specs.Writes.{writeMessageRefusal, writeCallRefusal, takenOf, GoodWrite, GoodCall}
+use Rattle.table.specs.Writes.{slotsAfterWrite, tableAfterWrite, outAfterWrite, Received}
+use Rattle.table.specs.declared.writes.WriteAnswer.the-variants.{Refused, Taken}
+
+-- ---- what the answer says
+
+pub taken-refused : (o : Option Refusal) (r : Refusal) → Refused r ≡ takenOf o → o ≡ some r
+taken-refused (some x) r e = cc
+taken-refused none r e = let z : _≡_ {A = ℕ} 0 1 = cc in absurd (omega arith)
+
+pub taken-passed : (o : Option Refusal) → Taken ≡ takenOf o → o ≡ none
+taken-passed (some x) e = let z : _≡_ {A = ℕ} 0 1 = cc in absurd (omega arith)
+taken-passed none e = refl
+
+-- ---- which writes are not refused
+
+module _ (m : List ℕ) (count : ℕ) where
+  good-write : (writeMessageRefusal m count ≡ none) ↔ GoodWrite m count
+  unfolding writeMessageRefusal
+  good-write = (
+    λ e.
+        let long = need-none (eqb (length m) (writeSize keySize)) _ _ e in
+        let kind = need-none (eqb (getD m writeKind 0) isWrite) _ _ (long .1) in
+        let clean = need-none (not (isFlawed (writeFlaw keySize m))) _ _ (kind .1) in
+        let there = need-none (ltb (decodeWrite keySize m .slot) count) _ _ (clean .1) in
+        let nonzero = need-none (not (eqb (decodeWrite keySize m .sequence) 0)) _ _ (there .1) in
+        let live = eqb-false (decodeWrite keySize m .sequence) 0 (not-true (nonzero .0)) in
+        record {
+          long = eqb-true _ _ (long .0);
+          kind = eqb-true _ _ (kind .0);
+          clean = clean-of (writeFlaw keySize m) (not-true (clean .0));
+          slot-there = ltb-true _ _ (there .0);
+          live = omega arith;
+        },
+    λ h. rw (
+      eq-eqb _ _ (h .long),
+      eq-eqb _ _ (h .kind),
+      h .clean,
+      lt-ltb _ _ (h .slot-there),
+      ne-eqb (decodeWrite keySize m .sequence) 0 (λ z. absurd (omega (arith, h .live))),
+    ),
+  )
+
+module _ (table m : List ℕ) (room : ℕ) where
+  pub good-call : (writeCallRefusal table m room ≡ none) ↔ GoodCall table m room
+  unfolding writeCallRefusal
+  good-call = (
+    λ e.
+        let whole = none-first (slotsRefusal table) _ e in
+        let good = none-first (writeMessageRefusal m (slotCount keySize table)) _ (whole .1) in
+        record {
+          whole = slots-accepted table .0 (whole .0);
+          good = good-write m (slotCount keySize table) .0 (good .0);
+          fits = leb-true _ _ (need-none (leb reportSize room) _ none (good .1) .0);
+        },
+    λ h. rw (slots-accepted table .1 (h .whole), good-write m (slotCount keySize table) .1 (h .good), le-leb _ _ (h .fits)),
+  )
+
+  pub taken-good : Taken ≡ takenOf (writeCallRefusal table m room) → GoodCall table m room
+  taken-good e = good-call .0 (taken-passed (writeCallRefusal table m room) e)
+
+-- ---- the call
+
+module _ (table m out : List ℕ) where
+  pub received-refused : (r : Refusal) → Refused r ≡ takenOf (writeCallRefusal table m (length out)) → Received table m out (Refused r) table out
+  unfolding slotsAfterWrite tableAfterWrite outAfterWrite
+  received-refused r e =
+      let refused = taken-refused (writeCallRefusal table m (length out)) r e in
+      record { answer = rw refused; bytes = rw refused; meaning = rw refused; told = rw refused }
+
+  pub received-taken : (w : Write) (x : Slot) (table′ out′ : List ℕ) → Taken ≡ takenOf (writeCallRefusal table m (length out))
+      → w ≡ decodeWrite keySize m → Stored table w x table′ → out′ ≡ splice 0 (encodeReport (reportFor (w .slot) x)) out
+      → Received table m out Taken table′ out′
+  unfolding slotsAfterWrite tableAfterWrite outAfterWrite writeReport
+  received-taken w x table′ out′ e d s t =
+      let good : writeCallRefusal table m (length out) ≡ none = taken-passed (writeCallRefusal table m (length out)) e in
+      record {
+        answer = rw good;
+        bytes = rw good (rw d at (s .bytes));
+        meaning = rw good (rw d at (s .meaning));
+        told = rw (good, ← d, ← s .slot) t;
+      }

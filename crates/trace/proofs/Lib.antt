@@ -1,2 +1,0 @@
--- Laws of a run.
-pub mod RunLaws

@@ -1,2 +1,0 @@
--- A trace run: what it does.
-pub mod Runs

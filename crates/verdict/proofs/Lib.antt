@@ -1,2 +1,0 @@
--- Laws of the decision on a miss.
-pub mod DecisionLaws

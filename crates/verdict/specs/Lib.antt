@@ -1,2 +1,0 @@
--- What a miss comes to, by value.
-pub mod Decisions
