@@ -1,6 +1,6 @@
 // Bytes of a lent buffer: big-endian numbers read and written in place, and one row of bytes copied into another.
 ghost use mathlib.Core.Path.{_≡_};
-ghost use Prim.Native.Nat.{_+_, _≤_, _<_};
+ghost use Prim.Native.Nat.{_+_, _≤_, _<_, max};
 ghost use lib.ListN.{length};
 ghost use Rattle.buffers.specs.Numbers.{be, toBe};
 ghost use Rattle.buffers.specs.Parts.{part, splice};
@@ -82,4 +82,18 @@ pub fn put_be32(s: &mut [u8], at: usize, x: u32)
 {
     let b = bytes32(x);
     put_bytes(s, at, &b);
+}
+
+// The larger of two numbers.
+pub fn larger(a: u32, b: u32) -> u32
+    ensures { λ r. ⌜ r ≡ max a b ⌝ }
+{
+    if a < b { b } else { a }
+}
+
+// A number of a list as an index.
+pub fn wide(x: u16) -> usize
+    ensures { λ r. ⌜ r ≡ x ⌝ }
+{
+    x as usize
 }

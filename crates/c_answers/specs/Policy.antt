@@ -2,8 +2,8 @@
 use Rattle.ends.specs.Trace.{nothing}
 use Rattle.policy.specs.declared.PolicyAnswer.{PolicyAnswer}
 use Rattle.policy.specs.declared.PolicyAnswer.the-variants.{Refused as PolicyRefused, Rules}
-use Rattle.policy.specs.declared.search.BestAnswer.{BestAnswer}
-use Rattle.policy.specs.declared.search.BestAnswer.the-variants.{Refused as BestRefused, NoRule, Rule}
+use Rattle.policy.specs.declared.BestAnswer.{BestAnswer}
+use Rattle.policy.specs.declared.BestAnswer.the-variants.{Refused as BestRefused, NoRule, Rule}
 use Rattle.c_answers.specs.declared.structs.WgCount.{WgCount}
 use Rattle.c_answers.specs.declared.structs.WgBestAnswer.{WgBestAnswer}
 

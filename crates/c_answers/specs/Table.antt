@@ -1,9 +1,9 @@
 -- The numbers of the table's answers. Assumes nothing.
 use Rattle.ends.specs.Trace.{nothing}
-use Rattle.table.specs.declared.lookups.LookupAnswer.{LookupAnswer}
-use Rattle.table.specs.declared.lookups.LookupAnswer.the-variants.{Refused as LookupRefused, Miss, Hit}
-use Rattle.table.specs.declared.writes.WriteAnswer.{WriteAnswer}
-use Rattle.table.specs.declared.writes.WriteAnswer.the-variants.{Refused as WriteRefused, Taken}
+use Rattle.table.specs.declared.LookupAnswer.{LookupAnswer}
+use Rattle.table.specs.declared.LookupAnswer.the-variants.{Refused as LookupRefused, Miss, Hit}
+use Rattle.table.specs.declared.WriteAnswer.{WriteAnswer}
+use Rattle.table.specs.declared.WriteAnswer.the-variants.{Refused as WriteRefused, Taken}
 use Rattle.c_answers.specs.declared.structs.WgDone.{WgDone}
 use Rattle.c_answers.specs.declared.structs.WgFound.{WgFound}
 

@@ -1,8 +1,8 @@
 // The answers about a policy as numbers.
 use crate::structs::WgBestAnswer;
 use crate::structs::WgCount;
+use policy::BestAnswer;
 use policy::PolicyAnswer;
-use policy::search::BestAnswer;
 use records::kinds;
 ghost use mathlib.Core.Path.{_≡_};
 ghost use Rattle.c_answers.specs.Policy.{checkedNumbers, bestNumbers};

@@ -2,8 +2,8 @@
 use crate::structs::WgDone;
 use crate::structs::WgFound;
 use records::kinds;
-use table::lookups::LookupAnswer;
-use table::writes::WriteAnswer;
+use table::LookupAnswer;
+use table::WriteAnswer;
 ghost use mathlib.Core.Path.{_≡_};
 ghost use Rattle.c_answers.specs.Table.{foundNumbers, writtenNumbers};
 

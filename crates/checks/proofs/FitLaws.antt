@@ -4,21 +4,18 @@ use mathlib.Core.Bool.{true, _&&_}
 use mathlib.Core.List.{List}
 use mathlib.Core.Option.{none}
 use mathlib.Core.Logic.{_↔_}
-use Prim.Native.Nat.{ℕ, _*_, _%_, _≤_}
+use Prim.Native.Nat.{ℕ, _%_}
 use native.Mathlib.Omega.{arith}
 use lib.Dec.{leb, eqb}
 use lib.ListN.{length}
 use borrow.Author.Tests.{eqb-true, leb-true, eq-eqb, le-leb}
-use Rattle.model.specs.Bits.{Bytes}
 use Rattle.model.specs.Refusals.{badSlots}
 use Rattle.model.proofs.Cases.{and-left, and-right}
 use Rattle.ternary.specs.Sizes.{keySize}
-use Rattle.buffers.specs.Parts.{spelled}
 use Rattle.records.specs.Layout.{slotSize, mostSlots}
 use Rattle.checks.proofs.RefusalLaws.{need-none}
-use Rattle.end_records.specs.Slots.{encodeSlot, slotCount, slots}
-use Rattle.checks.specs.BufferRefusals.{slotsFit, slotsRefusal, WholeSlots}
-use Rattle.end_records.proofs.SlotLaws.{slots-spell}
+use Rattle.records.specs.SlotBuffers.{slotCount, WholeSlots}
+use Rattle.checks.specs.BufferRefusals.{slotsFit, slotsRefusal}
 
 module _ (bs : List ℕ) where
   pub fit-whole : slotsFit bs ≡ true → WholeSlots bs
@@ -45,15 +42,3 @@ module _ (bs : List ℕ) where
   pub slots-accepted : (slotsRefusal bs ≡ none) ↔ WholeSlots bs
   unfolding slotsRefusal
   slots-accepted = (λ e. fit-whole (need-none (slotsFit bs) badSlots none e .0), λ h. rw (whole-fit h))
-
--- a buffer as long as one of whole slots is one
-pub as-whole : {a b : List ℕ} → length b ≡ length a → WholeSlots a → WholeSlots b
-as-whole e h = record { whole = rw e (h .whole); some-there = rw e (h .some-there); few-there = rw e (h .few-there) }
-
--- a buffer of 1 to 256 slots is one
-pub whole-slots : (bs : List ℕ) (n : ℕ) → length bs ≡ slotSize keySize * n → 1 ≤ n → n ≤ mostSlots → WholeSlots bs
-whole-slots bs n l one few = record { whole = omega arith; some-there = omega arith; few-there = omega arith }
-
--- bytes as long as whole slots are spelled by their slots
-pub spelled-back : {a : List ℕ} (b : List ℕ) → length b ≡ length a → WholeSlots a → Bytes b → spelled encodeSlot (slots keySize b) ≡ b
-spelled-back b e whole h = let w : WholeSlots b = as-whole e whole in slots-spell keySize b (w .whole) h

@@ -4,6 +4,5 @@ pub mod CleanLaws
 pub mod RefusalLaws
 -- How an end's buffer of slots is refused.
 pub mod FitLaws
-pub mod SlotBytes
 -- Laws of the first flawed record.
 pub mod FlawedLaws

@@ -1,9 +1,8 @@
 -- How an end's buffer of slots is refused. Assumes nothing.
-use mathlib.Core.Path.{_≡_}
 use mathlib.Core.Bool.{Bool, _&&_}
 use mathlib.Core.List.{List}
 use mathlib.Core.Option.{Option, none}
-use Prim.Native.Nat.{ℕ, _*_, _%_, _≤_}
+use Prim.Native.Nat.{ℕ, _%_}
 use lib.Dec.{leb, eqb}
 use lib.ListN.{length}
 use Rattle.model.specs.Refusals.{badSlots}
@@ -11,7 +10,7 @@ use Rattle.ternary.specs.Sizes.{keySize}
 use Rattle.records.specs.Layout.{slotSize, mostSlots}
 use Rattle.checks.specs.Refusals.{need}
 use Rattle.checks.specs.declared.refusal.Refusal.{Refusal}
-use Rattle.end_records.specs.Slots.{slotCount}
+use Rattle.records.specs.SlotBuffers.{slotCount}
 
 -- whole slots, at least 1, and at most 256
 unfoldable pub slotsFit : List ℕ → Bool
@@ -21,9 +20,3 @@ slotsFit bs =
 -- 4: not such a buffer
 unfoldable pub slotsRefusal : List ℕ → Option Refusal
 slotsRefusal bs = need (slotsFit bs) badSlots none
-
--- what a buffer that is not refused is
-pub record WholeSlots (bs : List ℕ) : Type 0 where
-  pub whole : length bs ≡ slotSize keySize * slotCount keySize bs
-  pub some-there : 1 ≤ slotCount keySize bs
-  pub few-there : slotCount keySize bs ≤ mostSlots

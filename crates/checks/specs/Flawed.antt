@@ -9,6 +9,9 @@ use Rattle.checks.specs.Flaws.{isFlawed, ruleFlaw, traceFlaw}
 use Rattle.checks.specs.declared.flaw.Flaw.{Flaw}
 use Rattle.checks.specs.declared.flawed.Checked.{Checked}
 use Rattle.checks.specs.declared.flawed.Checked.the-variants.{AllClean, Flawed}
+use Rattle.model.specs.Refusals.{badRecord}
+use Rattle.checks.specs.Refusals.{refusal}
+use Rattle.checks.specs.declared.refusal.Refusal.{Refusal}
 
 abbrev pub checkedOf : (ℕ → Flaw) → Option ℕ → Checked
 checkedOf flaw none = AllClean
@@ -24,3 +27,8 @@ ruleFlawAt w bs i = ruleFlaw w (chunk (ruleSize w) bs i)
 
 abbrev pub traceFlawAt : ℕ → List ℕ → ℕ → Flaw
 traceFlawAt w bs i = traceFlaw w (chunk (traceSize w) bs i)
+
+-- 3, with the place of the first flawed record
+abbrev pub flawRefusal : Checked → Option Refusal
+flawRefusal AllClean = none
+flawRefusal (Flawed i flaw) = some (refusal badRecord i)

@@ -8,8 +8,7 @@ use lib.Dec.{eqb}
 use lib.ListN.{getD}
 use Rattle.model.specs.Pattern.{firstStray}
 use Rattle.buffers.specs.Parts.{part}
-use Rattle.records.specs.Layout.{ruleValue, ruleMask, ruleSpare, traceSpare}
-use Rattle.records.specs.Layout.{writeZero, writeValue, writeMask, writeSpare, reportZero}
+use Rattle.records.specs.Layout.{ruleValue, ruleMask, ruleSpare, traceSpare, writeZero, writeValue, writeMask, writeSpare, reportZero}
 use Rattle.checks.specs.declared.flaw.Flaw.{Flaw}
 use Rattle.checks.specs.declared.flaw.Flaw.the-variants.{Clean, Spare, Stray}
 

@@ -10,7 +10,8 @@ use Rattle.buffers.specs.Numbers.{be}
 use Rattle.buffers.specs.Parts.{part}
 use Rattle.buffers.proofs.PartLaws.{part-part}
 use Rattle.records.specs.Layout.{slotSequence, slotHits, slotValue, slotMask, slotSettled, slotSize}
-use Rattle.end_records.specs.Slots.{decodeSlot, slotCount, slots}
+use Rattle.end_records.specs.Slots.{decodeSlot, slots}
+use Rattle.records.specs.SlotBuffers.{slotCount}
 use Rattle.end_records.proofs.SlotLaws.{slot-at}
 
 module _ (w : ℕ) (bs : List ℕ) (i : ℕ) (l : i < slotCount w bs) where

@@ -5,3 +5,4 @@ pub mod ByteSlots
 -- Laws of messages: decoding and encoding undo each other.
 pub mod WriteLaws
 pub mod ReportLaws
+pub mod SlotBytes

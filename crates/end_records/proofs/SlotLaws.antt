@@ -14,7 +14,8 @@ use Rattle.buffers.proofs.NumberLaws.{be-toBe}
 use Rattle.buffers.proofs.FieldLaws.{drop-past, part-past, byte-past, value-there, mask-there, after-rows, part-then, number-then, pair-last}
 use Rattle.buffers.proofs.RecordLaws.{records-count, records-at, records-put, records-spell}
 use Rattle.records.specs.Layout.{slotSequence, slotHits, slotValue, slotMask, slotAction, slotRule, slotSettled, slotSize}
-use Rattle.end_records.specs.Slots.{decodeSlot, encodeSlot, SlotFits, slotCount, slotIn, slots, putSlot}
+use Rattle.end_records.specs.Slots.{decodeSlot, encodeSlot, SlotFits, slotIn, slots, putSlot}
+use Rattle.records.specs.SlotBuffers.{slotCount}
 
 -- slots with the same fields are the same
 same-slot : {a b : Slot} → a .sequence ≡ b .sequence → a .hits ≡ b .hits → a .value ≡ b .value → a .mask ≡ b .mask

@@ -1,5 +1,5 @@
 -- Slots: what a record of the table or of the keeper means, and its bytes. Assumes nothing.
-use Prim.Native.Nat.{ℕ, _*_, _/_, _^_, _<_}
+use Prim.Native.Nat.{ℕ, _*_, _^_, _<_}
 use mathlib.Core.Path.{_≡_}
 use mathlib.Core.List.{List, [], _∷_, _++_}
 use lib.ListN.{length, getD, set}
@@ -7,6 +7,7 @@ use Rattle.ends.specs.Records.{Slot}
 use Rattle.buffers.specs.Numbers.{be, toBe}
 use Rattle.buffers.specs.Parts.{part, splice, chunk, recordsIn}
 use Rattle.records.specs.Layout.{slotSequence, slotHits, slotValue, slotMask, slotAction, slotRule, slotSettled, slotSpare, slotSize}
+use Rattle.records.specs.SlotBuffers.{slotCount}
 
 unfoldable pub decodeSlot : ℕ → List ℕ → Slot
 decodeSlot w c =
@@ -40,10 +41,7 @@ pub record SlotFits (w : ℕ) (x : Slot) : Type 0 where
   pub action-fits : x .action < 2 ^ 16
   pub rule-fits : x .rule < 2 ^ 16
 
--- how many slots a buffer holds, and its i-th slot
-abbrev pub slotCount : ℕ → List ℕ → ℕ
-slotCount w bs = length bs / slotSize w
-
+-- the i-th slot of a buffer
 abbrev pub slotIn : ℕ → List ℕ → ℕ → Slot
 slotIn w bs i = decodeSlot w (chunk (slotSize w) bs i)
 

@@ -4,7 +4,8 @@ ghost use mathlib.Core.Path.{_≡_};
 ghost use Prim.Native.Nat.{_<_};
 ghost use Rattle.ends.specs.Records.{slotAt};
 ghost use Rattle.ternary.specs.Sizes.{keySize};
-ghost use Rattle.end_records.specs.Slots.{slotCount, slots};
+ghost use Rattle.end_records.specs.Slots.{slots};
+ghost use Rattle.records.specs.SlotBuffers.{slotCount};
 
 // The sequence of the i-th slot.
 pub fn sequence_at(s: &[u8], i: usize) -> u32

@@ -10,7 +10,8 @@ ghost use lib.ListN.{length};
 ghost use Rattle.ternary.specs.Sizes.{keySize};
 ghost use Rattle.buffers.specs.Numbers.{toBe};
 ghost use Rattle.records.specs.Layout.{slotSize};
-ghost use Rattle.end_records.specs.Slots.{decodeSlot, encodeSlot, slotCount, slotIn, SlotPut};
+ghost use Rattle.end_records.specs.Slots.{decodeSlot, encodeSlot, slotIn, SlotPut};
+ghost use Rattle.records.specs.SlotBuffers.{slotCount};
 ghost use Rattle.end_records.specs.SlotStructs.{asSlot};
 
 // A slot of either end, all bytes of it.

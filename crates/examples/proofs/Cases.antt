@@ -21,7 +21,7 @@ use Rattle.policy.specs.Refusals.{policyRefusal}
 use Rattle.policy.specs.Best.{bestFound}
 use Rattle.policy.specs.Answers.{bestRefusal}
 use Rattle.policy.specs.BestAnswers.{bestAnswer}
-use Rattle.policy.specs.declared.search.BestAnswer.the-variants.{NoRule}
+use Rattle.policy.specs.declared.BestAnswer.the-variants.{NoRule}
 use Rattle.cover.specs.Answers.{coverRefusal}
 use Rattle.isolate.specs.Answers.{isolateRefusal, isolateAnswer}
 use Rattle.examples.specs.Cases.{smallRule, smallBytes, Case, bestCase, output, coverCase, isolateCase, smallCases}

@@ -6,8 +6,8 @@ use Rattle.model.specs.Small.{row}
 use Rattle.buffers.specs.Parts.{splice}
 use Rattle.checks.specs.Refusals.{unlessRefused}
 use Rattle.policy.specs.BestAnswers.{bestAnswer}
-use Rattle.policy.specs.declared.search.BestAnswer.{BestAnswer}
-use Rattle.policy.specs.declared.search.BestAnswer.the-variants.{NoRule, Rule}
+use Rattle.policy.specs.declared.BestAnswer.{BestAnswer}
+use Rattle.policy.specs.declared.BestAnswer.the-variants.{NoRule, Rule}
 use Rattle.lists.specs.Written.{numberBytes}
 use Rattle.lists.specs.Answers.{answerOf}
 use Rattle.lists.specs.declared.ListAnswer.{ListAnswer}

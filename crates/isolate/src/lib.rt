@@ -48,7 +48,7 @@ fn may_isolate(policy: &[u8], key: &[u8], number: usize) -> Said
             match policy::search::best_rule(policy, key) {
                 policy::search::BestFound::NoRule => refused(refusal::NOT_BEST),
                 policy::search::BestFound::Rule(best, _) => {
-                    if lists::wide(best) == number {
+                    if buffers::wide(best) == number {
                         Said::Isolated
                     } else {
                         refused(refusal::NOT_BEST)

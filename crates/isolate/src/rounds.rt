@@ -86,7 +86,7 @@ pub fn isolate_rule(policy: &[u8], key: [u8; KEY_SIZE], number: usize, deps: Num
             }
             p += 1;
         };
-        pattern = ternary::fixing::fix_bit(pattern, key, chosen);
+        pattern = ternary::bits::fix_bit(pattern, key, chosen);
         standing = left(policy, key, number, chosen, standing);
         fixed += 1;
     }

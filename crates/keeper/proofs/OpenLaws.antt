@@ -15,7 +15,8 @@ use Rattle.model.proofs.OrderLaws.{list-more}
 use Rattle.ternary.specs.Sizes.{keySize}
 use Rattle.records.specs.Layout.{mostRules, mostSlots}
 use Rattle.checks.specs.Refusals.{refusal}
-use Rattle.end_records.specs.Slots.{slotCount, slots}
+use Rattle.end_records.specs.Slots.{slots}
+use Rattle.records.specs.SlotBuffers.{slotCount}
 use Rattle.checks.specs.BufferRefusals.{slotsFit, slotsRefusal}
 use Rattle.end_records.proofs.SlotLaws.{slot-count}
 use Rattle.checks.proofs.FitLaws.{fit-whole}

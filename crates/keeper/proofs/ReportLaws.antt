@@ -18,8 +18,9 @@ use Rattle.records.specs.Layout.{reportKind, reportZero, reportSize, isReport}
 use Rattle.checks.specs.Refusals.{need}
 use Rattle.checks.specs.Flaws.{isFlawed, reportFlaw}
 use Rattle.checks.specs.declared.refusal.Refusal.{Refusal}
-use Rattle.end_records.specs.Slots.{slotCount, slots}
-use Rattle.checks.specs.BufferRefusals.{slotsRefusal, WholeSlots}
+use Rattle.end_records.specs.Slots.{slots}
+use Rattle.records.specs.SlotBuffers.{slotCount, WholeSlots}
+use Rattle.checks.specs.BufferRefusals.{slotsRefusal}
 use Rattle.end_records.proofs.SlotLaws.{slot-count}
 use Rattle.checks.proofs.FitLaws.{slots-accepted}
 use Rattle.checks.proofs.CleanLaws.{report-clean}

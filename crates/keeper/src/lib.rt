@@ -1,10 +1,12 @@
 // The keeper receives a report.
-pub mod open_list;
 pub mod open_slots;
 pub mod reports;
 
+use checks::refusal;
 use checks::refusal::Refusal;
+use lists::ListAnswer;
 ghost use Rattle.keeper.specs.Reports.{Reported};
+ghost use Rattle.keeper.specs.Opens.{Opened};
 
 // A report's refusal, or that it was taken.
 pub enum ReportAnswer {
@@ -21,4 +23,18 @@ pub fn report(keeper: &mut [u8], message: &[u8]) -> ReportAnswer
     }
     slots::settle::take_report(keeper, end_records::report::report_of(message));
     ReportAnswer::Taken
+}
+
+// Writes the numbers of the open slots to the start of `out`, two bytes each, rising: refusal 4 of the keeper, then 5; a refusal writes nothing.
+pub fn open_list(keeper: &[u8], out: &mut [u8]) -> ListAnswer
+    ensures { λ r. ⌜ Opened (now (keeper .entry)) (now (out .entry)) r (now (out .exit)) ⌝ }
+{
+    if !checks::buffer::slots_fit(keeper) {
+        return ListAnswer::Refused(Refusal {
+            number: refusal::BAD_SLOTS,
+            place: 0,
+        });
+    }
+    let list = open_slots::open_slots(keeper);
+    lists::list_answer(list, out)
 }

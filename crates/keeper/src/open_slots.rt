@@ -8,7 +8,8 @@ ghost use Rattle.ends.specs.Records.{slotAt};
 ghost use Rattle.ends.specs.Ends.{isOpen, openList};
 ghost use Rattle.ternary.specs.Sizes.{keySize};
 ghost use Rattle.records.specs.Layout.{mostSlots};
-ghost use Rattle.end_records.specs.Slots.{slotCount, slots};
+ghost use Rattle.end_records.specs.Slots.{slots};
+ghost use Rattle.records.specs.SlotBuffers.{slotCount};
 ghost use Rattle.lists.specs.Numbers.{Lists};
 
 // Whether the i-th slot is open: not empty, and not settled.

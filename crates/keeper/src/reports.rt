@@ -1,10 +1,10 @@
 // Reports that arrive at the keeper: how they are refused.
 use crate::ReportAnswer;
+use buffers::wide;
 use checks::flaw::Flaw;
 use checks::refusal;
 use checks::refusal::Refusal;
 use end_records::report::Report;
-use lists::wide;
 use records::layout;
 ghost use mathlib.Core.Path.{_≡_};
 ghost use mathlib.Core.Option.{some};

@@ -22,13 +22,6 @@ pub enum ListAnswer {
     Count(usize),
 }
 
-// A number of a list as an index.
-pub fn wide(x: u16) -> usize
-    ensures { λ r. ⌜ r ≡ x ⌝ }
-{
-    x as usize
-}
-
 // Writes the list to the start of `out`, two bytes a number; every other byte stays.
 fn put_numbers(list: Numbers, out: &mut [u8])
     requires { ⌜ (list .count ≤ mostRules) × (list .count ≤ length (list .items)) × (2 * list .count ≤ length (now out)) ⌝ }

@@ -8,7 +8,8 @@ use Rattle.ends.specs.Records.{Slot, slotAt}
 use Rattle.ends.specs.Ends.{again}
 use Rattle.ends.specs.Trace.{nothing}
 use Rattle.ternary.specs.Sizes.{keySize}
-use Rattle.end_records.specs.Slots.{slotCount, slotIn, slots}
+use Rattle.end_records.specs.Slots.{slotIn, slots}
+use Rattle.records.specs.SlotBuffers.{slotCount}
 use Rattle.end_records.proofs.SlotLaws.{slot-at}
 use Rattle.miss.specs.Decided.{DecidedAs, placedOutcome}
 

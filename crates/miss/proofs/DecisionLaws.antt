@@ -14,8 +14,8 @@ use Rattle.ends.specs.Trace.{nothing}
 use Rattle.ends.proofs.Slots.{roomIn-lt}
 use Rattle.ternary.specs.Sizes.{keySize, positions}
 use Rattle.records.specs.Rules.{rules}
-use Rattle.end_records.specs.Slots.{slotCount, slots}
-use Rattle.checks.specs.BufferRefusals.{WholeSlots}
+use Rattle.end_records.specs.Slots.{slots}
+use Rattle.records.specs.SlotBuffers.{slotCount, WholeSlots}
 use Rattle.slots.specs.Holding.{holdingOf}
 use Rattle.slots.specs.declared.find.Holding.{Holding}
 use Rattle.slots.specs.declared.find.Holding.the-variants.{Nowhere, At}

@@ -9,7 +9,8 @@ use Rattle.ends.specs.Ends.{Decisions, byPolicy, isEmpty, Miss, missWrite}
 use Rattle.ends.specs.Trace.{nothing, missOutcome}
 use Rattle.ternary.specs.Sizes.{keySize, positions}
 use Rattle.records.specs.Rules.{rules}
-use Rattle.end_records.specs.Slots.{slotCount, slots}
+use Rattle.end_records.specs.Slots.{slots}
+use Rattle.records.specs.SlotBuffers.{slotCount}
 use Rattle.end_records.specs.MessageStructs.{asWrite}
 use Rattle.records.specs.Outcomes.{asOutcome}
 use Rattle.miss.specs.declared.decision.Decision.{Decision}

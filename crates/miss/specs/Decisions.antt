@@ -11,7 +11,7 @@ use Rattle.ternary.specs.Sizes.{keySize, positions}
 use Rattle.records.specs.Layout.{mostRules}
 use Rattle.records.specs.Rules.{ruleCount, rules}
 use Rattle.end_records.specs.Slots.{slots}
-use Rattle.checks.specs.BufferRefusals.{WholeSlots}
+use Rattle.records.specs.SlotBuffers.{WholeSlots}
 use Rattle.isolate.specs.Ready.{Ready}
 use Rattle.miss.specs.Decided.{deciding}
 

@@ -9,7 +9,7 @@ ghost use mathlib.Core.Path.{_≡_};
 ghost use mathlib.Core.Bool.{true};
 ghost use Prim.Native.Nat.{_<_};
 ghost use Rattle.ternary.specs.Sizes.{keySize};
-ghost use Rattle.end_records.specs.Slots.{slotCount};
+ghost use Rattle.records.specs.SlotBuffers.{slotCount};
 ghost use Rattle.end_records.specs.MessageStructs.{asWrite};
 ghost use Rattle.records.specs.Outcomes.{givesWrite};
 ghost use Rattle.miss.specs.Carrying.{EntryPlaced, CarriedOut};

@@ -1,7 +1,7 @@
 // What a miss comes to, by value: nothing is written yet.
 use crate::decision::Decision;
+use buffers::wide;
 use end_records::write::Write;
-use lists::wide;
 use records::kinds;
 use records::layout;
 use slots::find::Holding;
@@ -11,7 +11,7 @@ ghost use Prim.Native.Nat.{suc};
 ghost use Rattle.ends.specs.Ends.{largest};
 ghost use Rattle.ternary.specs.Sizes.{keySize};
 ghost use Rattle.end_records.specs.Slots.{slots};
-ghost use Rattle.checks.specs.BufferRefusals.{WholeSlots};
+ghost use Rattle.records.specs.SlotBuffers.{WholeSlots};
 ghost use Rattle.miss.specs.Decided.{DecidedAs};
 ghost use Rattle.miss.specs.Decisions.{Fine, RuleFor, placeMiss, missWith, ruleMiss, missIn};
 

@@ -10,7 +10,8 @@ ghost use Prim.Native.Nat.{ℕ, _≤_, _<_};
 ghost use Rattle.ends.specs.Ends.{again};
 ghost use Rattle.ternary.specs.Sizes.{keySize};
 ghost use Rattle.records.specs.Layout.{mostSlots};
-ghost use Rattle.end_records.specs.Slots.{slotCount, slots};
+ghost use Rattle.end_records.specs.Slots.{slots};
+ghost use Rattle.records.specs.SlotBuffers.{slotCount};
 ghost use Rattle.records.specs.Outcomes.{asOutcome};
 ghost use Rattle.miss.specs.Decided.{DecidedAs, NoWrite, placedOutcome};
 

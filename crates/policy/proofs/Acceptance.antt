@@ -19,11 +19,11 @@ use Rattle.records.proofs.RuleLaws.{rule-count, rule-at}
 use Rattle.checks.specs.declared.flaw.Flaw.the-variants.{Clean}
 use Rattle.checks.proofs.CleanLaws.{rule-clean}
 use Rattle.checks.proofs.RefusalLaws.{need-none}
-use Rattle.checks.specs.Flawed.{ruleFlawAt}
+use Rattle.checks.specs.Flawed.{ruleFlawAt, flawRefusal}
 use Rattle.checks.specs.declared.flawed.Checked.{Checked}
 use Rattle.checks.specs.declared.flawed.Checked.the-variants.{AllClean, Flawed}
 use Rattle.checks.proofs.FlawedLaws.{all-clean}
-use Rattle.policy.specs.Refusals.{flawRefusal, policyRefusal, AcceptedBytes}
+use Rattle.policy.specs.Refusals.{policyRefusal, AcceptedBytes}
 
 flaw-none : (x : Checked) → flawRefusal x ≡ none → x ≡ AllClean
 flaw-none AllClean e = refl

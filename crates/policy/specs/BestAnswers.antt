@@ -7,8 +7,8 @@ use Rattle.policy.specs.Answers.{bestRefusal}
 use Rattle.policy.specs.Best.{bestFound}
 use Rattle.policy.specs.declared.search.BestFound.{BestFound}
 use Rattle.policy.specs.declared.search.BestFound.the-variants.{NoRule as FoundNone, Rule as FoundRule}
-use Rattle.policy.specs.declared.search.BestAnswer.{BestAnswer}
-use Rattle.policy.specs.declared.search.BestAnswer.the-variants.{Refused as BestRefused, NoRule, Rule}
+use Rattle.policy.specs.declared.BestAnswer.{BestAnswer}
+use Rattle.policy.specs.declared.BestAnswer.the-variants.{Refused as BestRefused, NoRule, Rule}
 
 -- the refusal, or the best rule
 abbrev pub bestOf : Option Refusal → BestFound → BestAnswer

@@ -7,7 +7,8 @@ use lib.ListN.{length}
 use Rattle.ternary.specs.Sizes.{keySize}
 use Rattle.checks.specs.Refusals.{orElse}
 use Rattle.checks.specs.declared.refusal.Refusal.{Refusal}
-use Rattle.checks.specs.BufferRefusals.{slotsRefusal, WholeSlots}
+use Rattle.checks.specs.BufferRefusals.{slotsRefusal}
+use Rattle.records.specs.SlotBuffers.{WholeSlots}
 use Rattle.policy.specs.Refusals.{policyRefusal}
 use Rattle.policy.specs.Answers.{bestRefusal}
 

@@ -2,27 +2,20 @@
 use mathlib.Core.Path.{_≡_}
 use mathlib.Core.Bool.{not}
 use mathlib.Core.List.{List}
-use mathlib.Core.Option.{Option, none, some}
+use mathlib.Core.Option.{Option}
 use Prim.Native.Nat.{ℕ, _*_, _%_, _<_}
 use lib.Dec.{ltb, eqb}
 use lib.ListN.{length}
 use Rattle.model.specs.Policy.{Accepted}
-use Rattle.model.specs.Refusals.{ragged, tooMany, badRecord}
+use Rattle.model.specs.Refusals.{ragged, tooMany}
 use Rattle.ternary.specs.Sizes.{keySize}
 use Rattle.buffers.specs.Parts.{chunk}
 use Rattle.records.specs.Layout.{ruleSize, mostRules}
 use Rattle.records.specs.Rules.{ruleCount, rules}
-use Rattle.checks.specs.Refusals.{refusal, need}
+use Rattle.checks.specs.Refusals.{need}
 use Rattle.checks.specs.Flaws.{Zeros, ruleSpares}
 use Rattle.checks.specs.declared.refusal.Refusal.{Refusal}
-use Rattle.checks.specs.Flawed.{firstFlawed, ruleFlawAt}
-use Rattle.checks.specs.declared.flawed.Checked.{Checked}
-use Rattle.checks.specs.declared.flawed.Checked.the-variants.{AllClean, Flawed}
-
--- 3, with the place of the first flawed record
-abbrev pub flawRefusal : Checked → Option Refusal
-flawRefusal AllClean = none
-flawRefusal (Flawed i flaw) = some (refusal badRecord i)
+use Rattle.checks.specs.Flawed.{firstFlawed, ruleFlawAt, flawRefusal}
 
 -- policy 1, 2, 3
 unfoldable pub policyRefusal : List ℕ → Option Refusal

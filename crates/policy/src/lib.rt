@@ -3,15 +3,14 @@ pub mod lent;
 pub mod record;
 pub mod search;
 
+use crate::search::BestFound;
+use crate::search::best_rule;
 use checks::refusal;
 use checks::refusal::Refusal;
 use records::layout;
 ghost use mathlib.Core.Path.{_≡_};
-ghost use Prim.Native.Nat.{_<_};
-ghost use Rattle.model.specs.Policy.{ruleAt};
-ghost use Rattle.ternary.specs.Sizes.{keySize};
-ghost use Rattle.records.specs.Rules.{ruleCount, rules};
 ghost use Rattle.policy.specs.Answers.{checkAnswer};
+ghost use Rattle.policy.specs.BestAnswers.{bestAnswer};
 
 // A policy's refusal, or its rule count.
 pub enum PolicyAnswer {
@@ -44,18 +43,28 @@ pub fn check(policy: &[u8]) -> PolicyAnswer
     }
 }
 
-// The priority of the i-th rule, read where it lies.
-pub fn rule_priority(policy: &[u8], i: usize) -> u16
-    requires { ⌜ i < ruleCount keySize (now policy) ⌝ }
-    ensures { λ r. ⌜ r ≡ (ruleAt (rules keySize (now (policy .entry))) i) .priority ⌝ }
-{
-    buffers::be16(policy, layout::RULE_SIZE * i + layout::RULE_PRIORITY)
+// A refusal, or the best rule of a key, if it has one.
+pub enum BestAnswer {
+    Refused(Refusal),
+    NoRule,
+    Rule(u16, u16),
 }
 
-// The action of the i-th rule, read where it lies.
-pub fn rule_action(policy: &[u8], i: usize) -> u16
-    requires { ⌜ i < ruleCount keySize (now policy) ⌝ }
-    ensures { λ r. ⌜ r ≡ (ruleAt (rules keySize (now (policy .entry))) i) .action ⌝ }
+// The best rule of a key: refusals 1, 2 and 3 of the policy, then 1 of the key. It changes nothing.
+pub fn best(policy: &[u8], key: &[u8]) -> BestAnswer
+    ensures { λ r. ⌜ r ≡ bestAnswer (now (policy .entry)) (now (key .entry)) ⌝ }
 {
-    buffers::be16(policy, layout::RULE_SIZE * i + layout::RULE_ACTION)
+    if let crate::PolicyAnswer::Refused(refusal) = crate::check(policy) {
+        return BestAnswer::Refused(refusal);
+    }
+    if key.len() != layout::KEY_SIZE {
+        return BestAnswer::Refused(Refusal {
+            number: refusal::RAGGED,
+            place: 0,
+        });
+    }
+    match best_rule(policy, key) {
+        BestFound::NoRule => BestAnswer::NoRule,
+        BestFound::Rule(number, action) => BestAnswer::Rule(number, action),
+    }
 }

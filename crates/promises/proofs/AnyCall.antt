@@ -20,10 +20,11 @@ use Rattle.checks.specs.Refusals.{unlessRefused}
 use Rattle.checks.specs.declared.refusal.Refusal.{Refusal}
 use Rattle.checks.proofs.RefusalLaws.{none-first}
 use Rattle.checks.specs.Keys.{keyRefusal}
-use Rattle.end_records.specs.Slots.{encodeSlot, slotCount, slots, putSlot}
+use Rattle.end_records.specs.Slots.{encodeSlot, slots, putSlot}
+use Rattle.records.specs.SlotBuffers.{slotCount}
 use Rattle.end_records.proofs.SlotLaws.{slots-put}
 use Rattle.end_records.proofs.ByteSlots.{ByteSlot, confirmed-byte}
-use Rattle.checks.proofs.SlotBytes.{spelled-slots}
+use Rattle.end_records.proofs.SlotBytes.{spelled-slots}
 use Rattle.end_records.specs.Reports.{decodeReport}
 use Rattle.records.specs.Outcomes.{encodeOutcome}
 use Rattle.policy.specs.Refusals.{policyRefusal}

@@ -21,7 +21,8 @@ use Rattle.records.specs.Layout.{writeSize, reportHits}
 use Rattle.checks.specs.Refusals.{need}
 use Rattle.checks.specs.declared.refusal.Refusal.{Refusal}
 use Rattle.checks.proofs.RefusalLaws.{none-first, need-none}
-use Rattle.end_records.specs.Slots.{slotCount, slots, putSlot}
+use Rattle.end_records.specs.Slots.{slots, putSlot}
+use Rattle.records.specs.SlotBuffers.{slotCount}
 use Rattle.end_records.proofs.SlotLaws.{length-put-slot}
 use Rattle.end_records.proofs.ByteSlots.{ByteSlot, confirmed-byte, put-bytes}
 use Rattle.end_records.specs.Writes.{decodeWrite}
@@ -39,8 +40,7 @@ use Rattle.miss.specs.declared.carry.MissAnswer.{MissAnswer}
 use Rattle.miss.specs.declared.carry.MissAnswer.the-variants.{Outcome}
 use Rattle.policy.specs.Parts.{partsRefusal}
 use Rattle.miss.specs.Answers.{roomRefusal, missRefused, missBytes, outWith, Missed}
-use Rattle.promises.specs.Calls.{State, missGave, after}
-use Rattle.promises.specs.Calls.{miss as missCall, report as reportCall}
+use Rattle.promises.specs.Calls.{State, missGave, after, miss as missCall, report as reportCall}
 use Rattle.promises.proofs.MessageBytes.{WriteBytes, ReportBytes}
 use Rattle.promises.proofs.MissBytes.{MissFits, miss-fits, write-there}
 use Rattle.promises.proofs.Given.{Gives, gives-none, gives-write, sent-meant, place-of}

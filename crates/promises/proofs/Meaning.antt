@@ -11,10 +11,10 @@ use Rattle.ends.specs.Ends.{Decisions}
 use Rattle.ends.specs.World.{World, Event, refused, sent, step}
 use Rattle.ternary.specs.Sizes.{keySize, positions}
 use Rattle.records.specs.Layout.{slotSize, mostSlots}
-use Rattle.end_records.specs.Slots.{slotCount, slots}
-use Rattle.checks.specs.BufferRefusals.{WholeSlots}
-use Rattle.checks.proofs.FitLaws.{whole-slots}
-use Rattle.checks.proofs.SlotBytes.{ByteSlots, slots-byte}
+use Rattle.end_records.specs.Slots.{slots}
+use Rattle.records.specs.SlotBuffers.{slotCount, WholeSlots}
+use Rattle.records.proofs.SlotBufferLaws.{whole-slots}
+use Rattle.end_records.proofs.SlotBytes.{ByteSlots, slots-byte}
 use Rattle.end_records.specs.Writes.{decodeWrite}
 use Rattle.end_records.specs.Reports.{decodeReport}
 use Rattle.run.specs.Sending.{endsIn}

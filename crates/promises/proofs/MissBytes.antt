@@ -23,10 +23,9 @@ use Rattle.buffers.proofs.ByteLaws.{fixed-bytes, two-below}
 use Rattle.records.specs.Layout.{ruleSize, ruleValue, ruleMask, ruleAction}
 use Rattle.records.specs.Rules.{ruleCount, rules}
 use Rattle.records.proofs.RuleLaws.{rule-count, value-in-place, mask-in-place, action-in-place}
-use Rattle.end_records.specs.Slots.{slotCount}
-use Rattle.checks.specs.BufferRefusals.{WholeSlots}
+use Rattle.records.specs.SlotBuffers.{slotCount, WholeSlots}
 use Rattle.end_records.proofs.ByteSlots.{ByteSlot}
-use Rattle.checks.proofs.SlotBytes.{ByteSlots}
+use Rattle.end_records.proofs.SlotBytes.{ByteSlots}
 use Rattle.policy.specs.Refusals.{AcceptedBytes}
 use Rattle.miss.specs.Decided.{deciding}
 use Rattle.promises.proofs.MessageBytes.{ByteWrite}

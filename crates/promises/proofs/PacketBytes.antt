@@ -13,7 +13,7 @@ use Rattle.ends.specs.Trace.{Ends, reportedTo, writtenTo, sentTo, packetEnds, o
 use Rattle.model.proofs.Cases.{cond-elim}
 use Rattle.ternary.specs.Sizes.{keySize, positions}
 use Rattle.end_records.proofs.ByteSlots.{ByteSlot, with-byte, counted-byte, confirmed-byte}
-use Rattle.checks.proofs.SlotBytes.{ByteSlots, set-byte, hits-low}
+use Rattle.end_records.proofs.SlotBytes.{ByteSlots, set-byte, hits-low}
 use Rattle.policy.specs.Refusals.{AcceptedBytes}
 use Rattle.miss.specs.Decided.{deciding}
 use Rattle.promises.proofs.MissBytes.{held-inside, MissFits, miss-fits}

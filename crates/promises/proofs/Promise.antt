@@ -24,7 +24,8 @@ use Rattle.buffers.specs.Parts.{part}
 use Rattle.records.specs.Layout.{reportSize, mostRules, mostSlots}
 use Rattle.records.specs.Rules.{rules}
 use Rattle.records.specs.Traces.{keys}
-use Rattle.end_records.specs.Slots.{slotCount, slots}
+use Rattle.end_records.specs.Slots.{slots}
+use Rattle.records.specs.SlotBuffers.{slotCount}
 use Rattle.end_records.proofs.SlotLaws.{slot-at}
 use Rattle.checks.proofs.FitLaws.{slots-accepted}
 use Rattle.end_records.specs.Writes.{decodeWrite}

@@ -14,15 +14,14 @@ use Rattle.records.specs.Layout.{slotSize}
 use Rattle.records.specs.Traces.{keys}
 use Rattle.checks.specs.declared.refusal.Refusal.{Refusal}
 use Rattle.end_records.specs.Slots.{encodeSlot}
-use Rattle.checks.proofs.SlotBytes.{ByteSlots, spelled-long, spelled-bytes}
+use Rattle.end_records.proofs.SlotBytes.{ByteSlots, spelled-long, spelled-bytes}
 use Rattle.policy.specs.Refusals.{AcceptedBytes}
 use Rattle.miss.specs.Decided.{deciding}
 use Rattle.run.specs.Sending.{endsIn}
 use Rattle.run.specs.Refusals.{runRefusal}
 use Rattle.run.specs.Runs.{endsOf, Shown, runOf, RunIs}
 use Rattle.run.specs.declared.Ran.{Ran}
-use Rattle.promises.specs.Calls.{State, after}
-use Rattle.promises.specs.Calls.{run as runCall}
+use Rattle.promises.specs.Calls.{State, after, run as runCall}
 use Rattle.promises.proofs.PacketBytes.{trace-byte}
 use Rattle.promises.proofs.Grown.{Grown, grown-step, grown-run}
 use Rattle.promises.proofs.Meaning.{meaning, Formed, Replaced, Stepped, both-slots, stayed}

@@ -10,23 +10,22 @@ use Rattle.ends.specs.Ends.{Decisions, firstFor, counted, hitAt, lookup, writeR
 use Rattle.ends.specs.World.{packet, writeArrives, hitReport, step}
 use Rattle.ternary.specs.Sizes.{keySize, positions}
 use Rattle.checks.specs.declared.refusal.Refusal.{Refusal}
-use Rattle.end_records.specs.Slots.{slotCount, slots}
-use Rattle.checks.specs.BufferRefusals.{WholeSlots}
+use Rattle.end_records.specs.Slots.{slots}
+use Rattle.records.specs.SlotBuffers.{slotCount, WholeSlots}
 use Rattle.end_records.proofs.ByteSlots.{counted-byte}
-use Rattle.checks.proofs.SlotBytes.{slots-byte}
+use Rattle.end_records.proofs.SlotBytes.{slots-byte}
 use Rattle.slots.proofs.HoldingLaws.{held-below}
 use Rattle.end_records.specs.Writes.{decodeWrite}
 use Rattle.end_records.specs.Reports.{decodeReport, ReportFits}
 use Rattle.table.specs.Lookups.{lookupRefusal, lookupAnswer, tableAfterLookup, LookedUp}
-use Rattle.table.specs.declared.lookups.LookupAnswer.{LookupAnswer}
+use Rattle.table.specs.declared.LookupAnswer.{LookupAnswer}
 use Rattle.table.proofs.SlotReports.{report-fits}
 use Rattle.table.specs.Writes.{writeCallRefusal, tableAfterWrite, Received}
-use Rattle.table.specs.declared.writes.WriteAnswer.{WriteAnswer}
+use Rattle.table.specs.declared.WriteAnswer.{WriteAnswer}
 use Rattle.table.proofs.WriteLaws.{good-call}
 use Rattle.table.proofs.ModelLaws.{taken-there, good-lookup, looked-up, received}
 use Rattle.table.proofs.AfterLaws.{after-lookup, after-write}
-use Rattle.promises.specs.Calls.{State, lookupGave, writeGave, after}
-use Rattle.promises.specs.Calls.{lookup as lookupCall, write as writeCall}
+use Rattle.promises.specs.Calls.{State, lookupGave, writeGave, after, lookup as lookupCall, write as writeCall}
 use Rattle.promises.proofs.MessageBytes.{ReportBytes}
 use Rattle.promises.proofs.Given.{Gives, gives-none, gives-report, sent-meant, place-of}
 use Rattle.promises.proofs.Meaning.{meaning, same-world, Formed, Replaced, Stepped, whole-of, table-whole, table-slots, stayed, table-formed}

@@ -8,9 +8,9 @@ use Rattle.ends.specs.Records.{Totals}
 use Rattle.records.specs.Layout.{mostSlots}
 use Rattle.policy.specs.Refusals.{policyRefusal}
 use Rattle.table.specs.Lookups.{LookedUp}
-use Rattle.table.specs.declared.lookups.LookupAnswer.{LookupAnswer}
+use Rattle.table.specs.declared.LookupAnswer.{LookupAnswer}
 use Rattle.table.specs.Writes.{Received}
-use Rattle.table.specs.declared.writes.WriteAnswer.{WriteAnswer}
+use Rattle.table.specs.declared.WriteAnswer.{WriteAnswer}
 use Rattle.keeper.specs.Reports.{Reported}
 use Rattle.keeper.specs.Opens.{Opened}
 use Rattle.keeper.specs.declared.ReportAnswer.{ReportAnswer}

@@ -12,11 +12,11 @@ use Rattle.ternary.specs.Sizes.{keySize}
 use Rattle.records.specs.Layout.{slotSize, writeSize, reportSize}
 -- what the calls promise and when they refuse
 use Rattle.table.specs.Lookups.{LookedUp}
-use Rattle.table.specs.declared.lookups.LookupAnswer.{LookupAnswer}
-use Rattle.table.specs.declared.lookups.LookupAnswer.the-variants.{Refused as LookupRefused, Miss, Hit}
+use Rattle.table.specs.declared.LookupAnswer.{LookupAnswer}
+use Rattle.table.specs.declared.LookupAnswer.the-variants.{Refused as LookupRefused, Miss, Hit}
 use Rattle.table.specs.Writes.{writeCallRefusal, Received}
-use Rattle.table.specs.declared.writes.WriteAnswer.{WriteAnswer}
-use Rattle.table.specs.declared.writes.WriteAnswer.the-variants.{Refused as WriteRefused, Taken}
+use Rattle.table.specs.declared.WriteAnswer.{WriteAnswer}
+use Rattle.table.specs.declared.WriteAnswer.the-variants.{Refused as WriteRefused, Taken}
 use Rattle.keeper.specs.Reports.{reportRefused, Reported}
 use Rattle.keeper.specs.Opens.{Opened}
 use Rattle.keeper.specs.declared.ReportAnswer.{ReportAnswer}

@@ -14,11 +14,11 @@ use Rattle.records.specs.Layout.{reportSize, mostSlots}
 use Rattle.end_records.specs.Slots.{slotIn}
 use Rattle.policy.specs.Refusals.{policyRefusal}
 use Rattle.policy.specs.BestAnswers.{bestAnswer}
-use Rattle.policy.specs.declared.search.BestAnswer.{BestAnswer}
-use Rattle.policy.specs.declared.search.BestAnswer.the-variants.{Rule}
+use Rattle.policy.specs.declared.BestAnswer.{BestAnswer}
+use Rattle.policy.specs.declared.BestAnswer.the-variants.{Rule}
 use Rattle.table.specs.Lookups.{lookupAnswer}
-use Rattle.table.specs.declared.lookups.LookupAnswer.{LookupAnswer}
-use Rattle.table.specs.declared.lookups.LookupAnswer.the-variants.{Refused, Miss, Hit}
+use Rattle.table.specs.declared.LookupAnswer.{LookupAnswer}
+use Rattle.table.specs.declared.LookupAnswer.the-variants.{Refused, Miss, Hit}
 use Rattle.table.specs.Writes.{writeCallRefusal}
 use Rattle.keeper.specs.Reports.{reportRefused}
 use Rattle.keeper.specs.Opens.{openRefusal, Opened}

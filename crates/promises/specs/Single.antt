@@ -7,7 +7,7 @@ use Rattle.policy.specs.declared.PolicyAnswer.{PolicyAnswer}
 use Rattle.policy.specs.RecordAnswers.{recordAnswer, shownRecord}
 use Rattle.policy.specs.declared.record.RecordAnswer.{RecordAnswer}
 use Rattle.policy.specs.BestAnswers.{bestAnswer}
-use Rattle.policy.specs.declared.search.BestAnswer.{BestAnswer}
+use Rattle.policy.specs.declared.BestAnswer.{BestAnswer}
 use Rattle.isolate.specs.Answers.{isolateAnswer}
 use Rattle.isolate.specs.declared.IsolateAnswer.{IsolateAnswer}
 use Rattle.show.specs.Answers.{showAnswer, shownPart}
@@ -15,9 +15,9 @@ use Rattle.show.specs.declared.ShowAnswer.{ShowAnswer}
 use Rattle.cover.specs.Answers.{Covered}
 use Rattle.lists.specs.declared.ListAnswer.{ListAnswer}
 use Rattle.table.specs.Lookups.{LookedUp}
-use Rattle.table.specs.declared.lookups.LookupAnswer.{LookupAnswer}
+use Rattle.table.specs.declared.LookupAnswer.{LookupAnswer}
 use Rattle.table.specs.Writes.{Received}
-use Rattle.table.specs.declared.writes.WriteAnswer.{WriteAnswer}
+use Rattle.table.specs.declared.WriteAnswer.{WriteAnswer}
 use Rattle.keeper.specs.Reports.{Reported}
 use Rattle.keeper.specs.Opens.{Opened}
 use Rattle.keeper.specs.declared.ReportAnswer.{ReportAnswer}

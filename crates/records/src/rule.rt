@@ -4,7 +4,7 @@ use crate::row::row_at;
 ghost use mathlib.Core.Path.{_≡_};
 ghost use Prim.Native.Nat.{_<_};
 ghost use lib.ListN.{length};
-ghost use Rattle.model.specs.Policy.{ruleMatches};
+ghost use Rattle.model.specs.Policy.{ruleMatches, ruleAt};
 ghost use Rattle.ternary.specs.Sizes.{keySize, positions};
 ghost use Rattle.records.specs.Layout.{ruleSize};
 ghost use Rattle.records.specs.Rules.{decodeRule, ruleCount, ruleIn, rules};
@@ -53,4 +53,20 @@ pub fn rule_matches(policy: &[u8], i: usize, key: &[u8]) -> bool
         &policy[mask..mask + layout::KEY_SIZE],
         key,
     )
+}
+
+// The priority of the i-th rule, read where it lies.
+pub fn rule_priority(policy: &[u8], i: usize) -> u16
+    requires { ⌜ i < ruleCount keySize (now policy) ⌝ }
+    ensures { λ r. ⌜ r ≡ (ruleAt (rules keySize (now (policy .entry))) i) .priority ⌝ }
+{
+    buffers::be16(policy, layout::RULE_SIZE * i + layout::RULE_PRIORITY)
+}
+
+// The action of the i-th rule, read where it lies.
+pub fn rule_action(policy: &[u8], i: usize) -> u16
+    requires { ⌜ i < ruleCount keySize (now policy) ⌝ }
+    ensures { λ r. ⌜ r ≡ (ruleAt (rules keySize (now (policy .entry))) i) .action ⌝ }
+{
+    buffers::be16(policy, layout::RULE_SIZE * i + layout::RULE_ACTION)
 }

@@ -15,7 +15,8 @@ use Rattle.records.specs.Traces.{packetCount}
 use Rattle.checks.proofs.RefusalLaws.{or-none}
 use Rattle.checks.specs.declared.refusal.Refusal.{Refusal}
 use Rattle.checks.specs.BufferRefusals.{slotsRefusal}
-use Rattle.checks.proofs.FitLaws.{slots-accepted, whole-slots}
+use Rattle.checks.proofs.FitLaws.{slots-accepted}
+use Rattle.records.proofs.SlotBufferLaws.{whole-slots}
 use Rattle.totals.specs.Sums.{asTotals, totalsFit}
 use Rattle.run.specs.Refusals.{traceRefusal, endsRefusal, runRefusal}
 use Rattle.run.specs.Runs.{RunIs}

@@ -17,8 +17,7 @@ ghost use Rattle.text.specs.Line.{Says};
 ghost use Rattle.lines.specs.Printed.{totalsLine};
 ghost use Rattle.lines.specs.Listing.{TextPut};
 ghost use Rattle.replay_text.specs.Files.{mostTraceBytes};
-ghost use Rattle.replay_text.specs.Text.{clearedEnd, ranText, packetsOf, mostText, RanCleared};
-ghost use Rattle.replay_text.specs.Text.{outcomesFrom, callRefusal, textFor, replayText};
+ghost use Rattle.replay_text.specs.Text.{clearedEnd, ranText, packetsOf, mostText, RanCleared, outcomesFrom, callRefusal, textFor, replayText};
 
 // The text of every packet and of the totals is at most so long.
 pub const MOST_TEXT: usize = LINE_SIZE * (layout::MOST_PACKETS + 1);

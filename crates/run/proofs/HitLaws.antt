@@ -14,13 +14,14 @@ use Rattle.ends.proofs.Slots.{found}
 use Rattle.ternary.specs.Sizes.{keySize, positions}
 use Rattle.buffers.proofs.PartLaws.{splice-all}
 use Rattle.records.specs.Layout.{reportSize}
-use Rattle.end_records.specs.Slots.{slotCount, slots}
+use Rattle.end_records.specs.Slots.{slots}
+use Rattle.records.specs.SlotBuffers.{slotCount}
 use Rattle.end_records.proofs.SlotLaws.{slot-count}
-use Rattle.checks.proofs.FitLaws.{as-whole}
+use Rattle.records.proofs.SlotBufferLaws.{as-whole}
 use Rattle.end_records.specs.Reports.{encodeReport, ReportFits}
 use Rattle.table.specs.Lookups.{lookupRefusal, answerOf, LookedUp}
-use Rattle.table.specs.declared.lookups.LookupAnswer.{LookupAnswer}
-use Rattle.table.specs.declared.lookups.LookupAnswer.the-variants.{Hit}
+use Rattle.table.specs.declared.LookupAnswer.{LookupAnswer}
+use Rattle.table.specs.declared.LookupAnswer.the-variants.{Hit}
 use Rattle.table.proofs.ModelLaws.{good-lookup, looked-up}
 use Rattle.keeper.specs.Reports.{Reported}
 use Rattle.keeper.specs.declared.ReportAnswer.{ReportAnswer}

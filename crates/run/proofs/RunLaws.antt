@@ -20,8 +20,10 @@ use Rattle.checks.specs.declared.refusal.Refusal.{Refusal}
 use Rattle.checks.specs.Refusals.{partsOf}
 use Rattle.checks.proofs.RefusalLaws.{none-first, need-none, parts-refused}
 use Rattle.end_records.specs.Slots.{encodeSlot}
-use Rattle.checks.specs.BufferRefusals.{slotsRefusal, WholeSlots}
-use Rattle.checks.proofs.FitLaws.{slots-accepted, spelled-back}
+use Rattle.checks.specs.BufferRefusals.{slotsRefusal}
+use Rattle.records.specs.SlotBuffers.{WholeSlots}
+use Rattle.checks.proofs.FitLaws.{slots-accepted}
+use Rattle.end_records.proofs.SlotBytes.{spelled-back}
 use Rattle.policy.specs.Refusals.{policyRefusal}
 use Rattle.policy.proofs.CheckLaws.{passed-few}
 use Rattle.totals.specs.declared.Totals.{Totals as TotalsStruct}

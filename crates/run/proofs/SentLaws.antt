@@ -15,18 +15,18 @@ use Rattle.buffers.proofs.PartLaws.{splice-all}
 use Rattle.records.specs.Layout.{reportSize}
 use Rattle.checks.specs.Refusals.{unlessRefused}
 use Rattle.checks.specs.declared.refusal.Refusal.{Refusal}
-use Rattle.end_records.specs.Slots.{slotCount, slots}
-use Rattle.checks.specs.BufferRefusals.{WholeSlots}
-use Rattle.checks.proofs.FitLaws.{as-whole}
-use Rattle.checks.proofs.SlotBytes.{slots-byte}
+use Rattle.end_records.specs.Slots.{slots}
+use Rattle.records.specs.SlotBuffers.{slotCount, WholeSlots}
+use Rattle.records.proofs.SlotBufferLaws.{as-whole}
+use Rattle.end_records.proofs.SlotBytes.{slots-byte}
 use Rattle.end_records.specs.Writes.{decodeWrite, encodeWrite, WriteFits}
 use Rattle.end_records.specs.Reports.{decodeReport, encodeReport, ReportFits}
 use Rattle.end_records.proofs.WriteLaws.{decode-encode-write, length-encode-write, spares-encode-write}
 use Rattle.end_records.proofs.ReportLaws.{decode-encode-report}
 use Rattle.table.proofs.SlotReports.{report-fits}
 use Rattle.table.specs.Writes.{writeCallRefusal, Received, slotsAfterWrite}
-use Rattle.table.specs.declared.writes.WriteAnswer.{WriteAnswer}
-use Rattle.table.specs.declared.writes.WriteAnswer.the-variants.{Refused, Taken}
+use Rattle.table.specs.declared.WriteAnswer.{WriteAnswer}
+use Rattle.table.specs.declared.WriteAnswer.the-variants.{Refused, Taken}
 use Rattle.table.proofs.WriteLaws.{good-call, taken-refused, taken-passed}
 use Rattle.table.proofs.ModelLaws.{taken-here, taken-there, received}
 use Rattle.keeper.specs.Reports.{numbered, reportRefused, Reported}

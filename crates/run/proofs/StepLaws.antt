@@ -18,7 +18,7 @@ use Rattle.buffers.proofs.RowLaws.{spelled-more, length-spelled}
 use Rattle.records.specs.Layout.{outcomeSize, traceSize, mostPackets}
 use Rattle.records.specs.Traces.{packetCount, keyIn, keys, decodeTrace}
 use Rattle.records.proofs.TraceLaws.{packet-count, key-at}
-use Rattle.checks.proofs.FitLaws.{as-whole}
+use Rattle.records.proofs.SlotBufferLaws.{as-whole}
 use Rattle.records.specs.Outcomes.{encodeOutcome}
 use Rattle.records.proofs.OutcomeLaws.{length-outcome}
 use Rattle.totals.specs.Sums.{mostTotal, AtMost}

@@ -7,7 +7,7 @@ use Rattle.ends.specs.Ends.{missKeeper, missWrite}
 use Rattle.ends.specs.Trace.{Ends, sentTo, onePacket, missOutcome, oneOutcome}
 use Rattle.ternary.specs.Sizes.{keySize, positions}
 use Rattle.end_records.specs.Slots.{slots}
-use Rattle.checks.specs.BufferRefusals.{WholeSlots}
+use Rattle.records.specs.SlotBuffers.{WholeSlots}
 use Rattle.miss.specs.Decided.{deciding}
 use Rattle.miss.specs.Decisions.{Fine, missIn}
 use Rattle.run.specs.Sending.{endsIn}

@@ -12,9 +12,9 @@ use Rattle.records.specs.Layout.{traceSize, outcomeSize, mostPackets}
 use Rattle.records.specs.Traces.{packetCount}
 use Rattle.checks.specs.Refusals.{orElse, need}
 use Rattle.checks.specs.declared.refusal.Refusal.{Refusal}
-use Rattle.checks.specs.Flawed.{firstFlawed, traceFlawAt}
+use Rattle.checks.specs.Flawed.{firstFlawed, traceFlawAt, flawRefusal}
 use Rattle.checks.specs.BufferRefusals.{slotsRefusal}
-use Rattle.policy.specs.Refusals.{flawRefusal, policyRefusal}
+use Rattle.policy.specs.Refusals.{policyRefusal}
 use Rattle.totals.specs.Sums.{totalsFit}
 
 -- trace 1, 2, 3

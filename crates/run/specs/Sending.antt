@@ -6,7 +6,7 @@ use Rattle.ends.specs.Ends.{writeRefusal}
 use Rattle.ends.specs.Trace.{Ends, writtenTo}
 use Rattle.ternary.specs.Sizes.{keySize, positions}
 use Rattle.end_records.specs.Slots.{slots}
-use Rattle.checks.specs.BufferRefusals.{WholeSlots}
+use Rattle.records.specs.SlotBuffers.{WholeSlots}
 
 -- the two ends that the buffers hold
 abbrev pub endsIn : List ℕ → List ℕ → Ends

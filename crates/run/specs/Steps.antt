@@ -12,7 +12,7 @@ use Rattle.buffers.specs.Parts.{splice, spelled}
 use Rattle.records.specs.Layout.{outcomeSize, mostRules, mostPackets}
 use Rattle.records.specs.Rules.{ruleCount}
 use Rattle.records.specs.Traces.{packetCount}
-use Rattle.checks.specs.BufferRefusals.{WholeSlots}
+use Rattle.records.specs.SlotBuffers.{WholeSlots}
 use Rattle.records.specs.Outcomes.{encodeOutcome}
 use Rattle.miss.specs.Decided.{deciding}
 use Rattle.run.specs.Sending.{endsIn}

@@ -12,7 +12,7 @@ pub fn send(w: Write, table: &mut [u8], keeper: &mut [u8])
 {
     let message = end_records::write::write_bytes(w);
     let mut back = [0; layout::REPORT_SIZE];
-    if let table::writes::WriteAnswer::Taken = table::writes::write(table, &message, &mut back) {
+    if let table::WriteAnswer::Taken = table::write(table, &message, &mut back) {
         keeper::report(keeper, &back);
     }
 }

@@ -11,7 +11,8 @@ use Rattle.ends.proofs.Show.{shown-for}
 use Rattle.ternary.specs.Sizes.{keySize, positions}
 use Rattle.records.specs.Rules.{ruleCount, rules}
 use Rattle.checks.specs.declared.refusal.Refusal.{Refusal}
-use Rattle.end_records.specs.Slots.{slotCount, slots}
+use Rattle.end_records.specs.Slots.{slots}
+use Rattle.records.specs.SlotBuffers.{slotCount}
 use Rattle.end_records.proofs.SlotLaws.{slot-count}
 use Rattle.policy.specs.Parts.{partsRefusal}
 use Rattle.policy.proofs.BestLaws.{best-below}

@@ -12,8 +12,8 @@ use Rattle.model.proofs.OrderLaws.{first-found, first-missed}
 use Rattle.ends.proofs.Slots.{found}
 use Rattle.ternary.specs.Sizes.{keySize, positions}
 use Rattle.records.specs.Layout.{mostSlots}
-use Rattle.end_records.specs.Slots.{slotCount, slots}
-use Rattle.checks.specs.BufferRefusals.{WholeSlots}
+use Rattle.end_records.specs.Slots.{slots}
+use Rattle.records.specs.SlotBuffers.{slotCount, WholeSlots}
 use Rattle.slots.specs.Holding.{holdingOf}
 use Rattle.slots.specs.declared.find.Holding.the-variants.{Nowhere, At}
 use Rattle.end_records.proofs.SlotLaws.{slot-count}

@@ -16,7 +16,8 @@ use Rattle.ends.specs.Ends.{isEmpty, largest, givenUpBefore, givenUp, roomIn}
 use Rattle.model.proofs.BelowLaws.{Passed, passed-none, passed-more}
 use Rattle.model.proofs.OrderLaws.{first-found, first-missed, foremost-next}
 use Rattle.ternary.specs.Sizes.{keySize}
-use Rattle.end_records.specs.Slots.{slotCount, slots}
+use Rattle.end_records.specs.Slots.{slots}
+use Rattle.records.specs.SlotBuffers.{slotCount}
 use Rattle.slots.specs.Holding.{holdingOf}
 use Rattle.slots.specs.declared.find.Holding.{Holding}
 use Rattle.slots.specs.declared.find.Holding.the-variants.{Nowhere, At}

@@ -8,7 +8,8 @@ use borrow.Author.Tests.{eq-eqb, ne-eqb}
 use Rattle.ends.specs.Records.{Slot, Report, slotAt}
 use Rattle.ends.specs.Ends.{isCurrent, confirmed, afterReport}
 use Rattle.ternary.specs.Sizes.{keySize}
-use Rattle.end_records.specs.Slots.{slotCount, slotIn, slots, SlotPut}
+use Rattle.end_records.specs.Slots.{slotIn, slots, SlotPut}
+use Rattle.records.specs.SlotBuffers.{slotCount}
 use Rattle.end_records.proofs.SlotLaws.{slot-at}
 use Rattle.slots.specs.Settling.{reportBytes, ReportTaken}
 

@@ -10,7 +10,8 @@ use borrow.Author.Tests.{lt-ltb, le-ltb}
 use Rattle.ends.specs.Records.{Slot, Write, slotAt, cleared, entryIn, written}
 use Rattle.ends.specs.Ends.{isNewer, afterWrite}
 use Rattle.ternary.specs.Sizes.{keySize}
-use Rattle.end_records.specs.Slots.{slotCount, slotIn, slots}
+use Rattle.end_records.specs.Slots.{slotIn, slots}
+use Rattle.records.specs.SlotBuffers.{slotCount}
 use Rattle.end_records.proofs.SlotLaws.{slot-count, slot-at}
 use Rattle.slots.specs.Puts.{EntryPut}
 use Rattle.slots.specs.Stores.{Stored}

@@ -1,22 +1,17 @@
 // What a miss asks of the keeper's slots: the largest sequence, and the slot for a new entry.
 use crate::find::Holding;
+use buffers::larger;
 use end_records::fields;
 use records::layout;
 ghost use mathlib.Core.Path.{_≡_};
-ghost use Prim.Native.Nat.{_<_, max};
+ghost use Prim.Native.Nat.{_<_};
 ghost use Rattle.ends.specs.Records.{slotAt};
 ghost use Rattle.ends.specs.Ends.{largest, givenUpBefore, givenUp, roomIn};
 ghost use Rattle.ternary.specs.Sizes.{keySize};
-ghost use Rattle.end_records.specs.Slots.{slotCount, slots};
+ghost use Rattle.end_records.specs.Slots.{slots};
+ghost use Rattle.records.specs.SlotBuffers.{slotCount};
 ghost use Rattle.slots.specs.Holding.{holdingOf};
 ghost use Rattle.slots.specs.Room.{firstEmpty};
-
-// The larger of two numbers.
-pub fn larger(a: u32, b: u32) -> u32
-    ensures { λ r. ⌜ r ≡ max a b ⌝ }
-{
-    if a < b { b } else { a }
-}
 
 // The largest sequence in the keeper.
 pub fn largest_sequence(keeper: &[u8]) -> u32

@@ -5,10 +5,11 @@ ghost use mathlib.Core.Path.{_≡_};
 ghost use Prim.Native.Nat.{_<_};
 ghost use Rattle.ends.specs.Records.{entryIn, written as newlyWritten};
 ghost use Rattle.ternary.specs.Sizes.{keySize};
-ghost use Rattle.end_records.specs.Slots.{slotCount};
+ghost use Rattle.records.specs.SlotBuffers.{slotCount};
 ghost use Rattle.end_records.specs.SlotStructs.{asSlot};
 ghost use Rattle.end_records.specs.MessageStructs.{asWrite};
 ghost use Rattle.slots.specs.Puts.{EntryPut};
+ghost use Rattle.slots.specs.Stores.{Stored};
 
 // The slot just after a write's entry went into it: no hits, not settled.
 fn written(w: Write) -> Slot
@@ -36,4 +37,16 @@ pub fn put_entry(end: &mut [u8], w: Write) -> Slot
     let new = written(w);
     end_records::slot::put_slot(end, w.slot as usize, new);
     new
+}
+
+// Stores a write in its slot of a table if its sequence is greater than the slot's, and gives the slot as it then is.
+pub fn store(table: &mut [u8], w: Write) -> Slot
+    requires { ⌜ asWrite w .slot < slotCount keySize (now table) ⌝ }
+    ensures { λ r. ⌜ Stored (now (table .entry)) (asWrite w) (asSlot r) (now (table .exit)) ⌝ }
+{
+    let old = end_records::slot::slot_at(table, w.slot as usize);
+    if w.sequence <= old.sequence {
+        return old;
+    }
+    crate::entry::put_entry(table, w)
 }

@@ -6,7 +6,8 @@ ghost use Prim.Native.Nat.{_<_};
 ghost use lib.ListN.{length};
 ghost use Rattle.ends.specs.Ends.{holds, firstFor};
 ghost use Rattle.ternary.specs.Sizes.{keySize, positions};
-ghost use Rattle.end_records.specs.Slots.{slotCount, slots};
+ghost use Rattle.end_records.specs.Slots.{slots};
+ghost use Rattle.records.specs.SlotBuffers.{slotCount};
 ghost use Rattle.slots.specs.Holding.{holdingOf};
 
 // Whether the i-th slot of an end is not empty and takes the key.

@@ -4,4 +4,3 @@ pub mod entry;
 pub mod find;
 pub mod hits;
 pub mod settle;
-pub mod store;

@@ -1,12 +1,12 @@
 // A report that is taken settles its slot at the keeper.
+use buffers::wide;
 use end_records::report::Report;
 use end_records::slot::Slot;
-use lists::wide;
 ghost use mathlib.Core.Path.{_≡_};
 ghost use Prim.Native.Nat.{_<_};
 ghost use Rattle.ends.specs.Ends.{confirmed};
 ghost use Rattle.ternary.specs.Sizes.{keySize};
-ghost use Rattle.end_records.specs.Slots.{slotCount};
+ghost use Rattle.records.specs.SlotBuffers.{slotCount};
 ghost use Rattle.end_records.specs.SlotStructs.{asSlot};
 ghost use Rattle.end_records.specs.MessageStructs.{asReport};
 ghost use Rattle.slots.specs.Settling.{ReportTaken};
@@ -19,7 +19,7 @@ fn confirmed_slot(old: Slot, hits: u32) -> Slot
     let mask = old.mask;
     Slot {
         sequence: old.sequence,
-        hits: crate::choose::larger(old.hits, hits),
+        hits: buffers::larger(old.hits, hits),
         value,
         mask,
         action: old.action,

@@ -15,8 +15,8 @@ use Rattle.buffers.proofs.ByteLaws.{two-below, four-below}
 use Rattle.records.specs.Layout.{slotSize, writeSequence, writeValue, writeMask, writeAction, writeRule, writeSize}
 use Rattle.checks.specs.Refusals.{unlessRefused}
 use Rattle.checks.specs.declared.refusal.Refusal.{Refusal}
-use Rattle.end_records.specs.Slots.{slotCount, slots, putSlot}
-use Rattle.checks.specs.BufferRefusals.{WholeSlots}
+use Rattle.end_records.specs.Slots.{slots, putSlot}
+use Rattle.records.specs.SlotBuffers.{slotCount, WholeSlots}
 use Rattle.end_records.proofs.SlotLaws.{slot-at, length-put-slot, slots-put}
 use Rattle.end_records.proofs.ByteSlots.{ByteSlot, slot-byte, counted-byte, put-bytes}
 use Rattle.slots.proofs.HoldingLaws.{held-below}

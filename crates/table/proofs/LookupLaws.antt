@@ -15,8 +15,9 @@ use Rattle.records.specs.Layout.{reportSize, mostSlots}
 use Rattle.checks.specs.declared.refusal.Refusal.{Refusal}
 use Rattle.checks.proofs.RefusalLaws.{none-first, need-none}
 use Rattle.checks.specs.Keys.{keyRefusal}
-use Rattle.end_records.specs.Slots.{slotCount, slots}
-use Rattle.checks.specs.BufferRefusals.{slotsRefusal, WholeSlots}
+use Rattle.end_records.specs.Slots.{slots}
+use Rattle.records.specs.SlotBuffers.{slotCount, WholeSlots}
+use Rattle.checks.specs.BufferRefusals.{slotsRefusal}
 use Rattle.end_records.proofs.SlotLaws.{slot-at}
 use Rattle.checks.proofs.FitLaws.{slots-accepted}
 use Rattle.slots.proofs.HoldingLaws.{held-below, held-few}
@@ -25,7 +26,7 @@ use Rattle.end_records.specs.Reports.{encodeReport}
 use Rattle.table.specs.Lookups.{roomRefusal, lookupRefusal, foundOf, findAnswer}
 use Rattle.table.specs.Lookups.{lookupAnswer, slotsAfterLookup, tableAfterLookup, outAfterLookup, LookedUp}
 use Rattle.table.specs.declared.lookups.Found.the-variants.{Refused as FoundRefused, Miss as FoundMiss, Slot as FoundSlot}
-use Rattle.table.specs.declared.lookups.LookupAnswer.the-variants.{Refused, Miss, Hit}
+use Rattle.table.specs.declared.LookupAnswer.the-variants.{Refused, Miss, Hit}
 
 -- ---- what is found
 

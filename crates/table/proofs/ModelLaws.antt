@@ -19,8 +19,8 @@ use Rattle.checks.specs.Flaws.{Zeros, writeSpares}
 use Rattle.checks.proofs.CleanLaws.{write-clean}
 use Rattle.checks.proofs.RefusalLaws.{none-first, key-accepted}
 use Rattle.checks.specs.Keys.{keyRefusal}
-use Rattle.end_records.specs.Slots.{slotCount, slots}
-use Rattle.checks.specs.BufferRefusals.{WholeSlots}
+use Rattle.end_records.specs.Slots.{slots}
+use Rattle.records.specs.SlotBuffers.{slotCount, WholeSlots}
 use Rattle.end_records.proofs.SlotLaws.{slot-count}
 use Rattle.checks.proofs.FitLaws.{slots-accepted}
 use Rattle.end_records.specs.Writes.{decodeWrite}
@@ -28,9 +28,9 @@ use Rattle.end_records.specs.Reports.{encodeReport}
 use Rattle.table.specs.Lookups.{hitRefusal, lookupRefusal, GoodLookup, answerOf, toldOf}
 use Rattle.table.specs.Lookups.{lookupAnswer, slotsAfterLookup, outAfterLookup, LookedUp}
 use Rattle.table.specs.Writes.{writeCallRefusal, GoodWrite, slotsAfterWrite, outAfterWrite, Received}
-use Rattle.table.specs.declared.lookups.LookupAnswer.{LookupAnswer}
-use Rattle.table.specs.declared.writes.WriteAnswer.{WriteAnswer}
-use Rattle.table.specs.declared.writes.WriteAnswer.the-variants.{Taken}
+use Rattle.table.specs.declared.LookupAnswer.{LookupAnswer}
+use Rattle.table.specs.declared.WriteAnswer.{WriteAnswer}
+use Rattle.table.specs.declared.WriteAnswer.the-variants.{Taken}
 use Rattle.table.proofs.LookupLaws.{lookup-whole, hit-room}
 use Rattle.table.proofs.WriteLaws.{good-call}
 

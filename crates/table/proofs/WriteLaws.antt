@@ -19,7 +19,7 @@ use Rattle.checks.specs.Flaws.{isFlawed, writeFlaw}
 use Rattle.checks.specs.declared.refusal.Refusal.{Refusal}
 use Rattle.checks.proofs.CleanLaws.{clean-of}
 use Rattle.checks.proofs.RefusalLaws.{none-first, need-none}
-use Rattle.end_records.specs.Slots.{slotCount}
+use Rattle.records.specs.SlotBuffers.{slotCount}
 use Rattle.checks.specs.BufferRefusals.{slotsRefusal}
 use Rattle.checks.proofs.FitLaws.{slots-accepted}
 use Rattle.end_records.specs.Writes.{decodeWrite}
@@ -27,7 +27,7 @@ use Rattle.end_records.specs.Reports.{encodeReport}
 use Rattle.slots.specs.Stores.{Stored}
 use Rattle.table.specs.Writes.{writeMessageRefusal, writeCallRefusal, takenOf, GoodWrite, GoodCall}
 use Rattle.table.specs.Writes.{slotsAfterWrite, tableAfterWrite, outAfterWrite, Received}
-use Rattle.table.specs.declared.writes.WriteAnswer.the-variants.{Refused, Taken}
+use Rattle.table.specs.declared.WriteAnswer.the-variants.{Refused, Taken}
 
 -- ---- what the answer says
 

@@ -15,12 +15,13 @@ use Rattle.checks.specs.Refusals.{orElse, need, unlessRefused}
 use Rattle.checks.specs.declared.refusal.Refusal.{Refusal}
 use Rattle.checks.specs.Keys.{keyRefusal}
 use Rattle.end_records.specs.Slots.{slots, putSlot}
-use Rattle.checks.specs.BufferRefusals.{slotsRefusal, WholeSlots}
+use Rattle.checks.specs.BufferRefusals.{slotsRefusal}
+use Rattle.records.specs.SlotBuffers.{WholeSlots}
 use Rattle.end_records.specs.Reports.{encodeReport}
 use Rattle.table.specs.declared.lookups.Found.{Found}
 use Rattle.table.specs.declared.lookups.Found.the-variants.{Refused as FoundRefused, Miss as FoundMiss, Slot as FoundSlot}
-use Rattle.table.specs.declared.lookups.LookupAnswer.{LookupAnswer}
-use Rattle.table.specs.declared.lookups.LookupAnswer.the-variants.{Refused, Miss, Hit as HitAt}
+use Rattle.table.specs.declared.LookupAnswer.{LookupAnswer}
+use Rattle.table.specs.declared.LookupAnswer.the-variants.{Refused, Miss, Hit as HitAt}
 
 -- 5: an output of `room` bytes is shorter than a report
 abbrev pub roomRefusal : ℕ → Option Refusal

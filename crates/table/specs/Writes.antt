@@ -16,14 +16,15 @@ use Rattle.checks.specs.Refusals.{orElse, need, unlessRefused}
 use Rattle.checks.specs.Flaws.{isFlawed, writeFlaw}
 use Rattle.checks.specs.declared.refusal.Refusal.{Refusal}
 use Rattle.checks.specs.declared.flaw.Flaw.the-variants.{Clean}
-use Rattle.end_records.specs.Slots.{slotCount, slots}
-use Rattle.checks.specs.BufferRefusals.{slotsRefusal, WholeSlots}
+use Rattle.end_records.specs.Slots.{slots}
+use Rattle.records.specs.SlotBuffers.{slotCount, WholeSlots}
+use Rattle.checks.specs.BufferRefusals.{slotsRefusal}
 use Rattle.end_records.specs.Writes.{decodeWrite}
 use Rattle.end_records.specs.Reports.{encodeReport}
 use Rattle.table.specs.Lookups.{roomRefusal}
 use Rattle.slots.specs.Stores.{storedBytes}
-use Rattle.table.specs.declared.writes.WriteAnswer.{WriteAnswer}
-use Rattle.table.specs.declared.writes.WriteAnswer.the-variants.{Refused, Taken}
+use Rattle.table.specs.declared.WriteAnswer.{WriteAnswer}
+use Rattle.table.specs.declared.WriteAnswer.the-variants.{Refused, Taken}
 
 -- message 1, 8, 3, 9, 10, where the table has `count` slots
 unfoldable pub writeMessageRefusal : List ℕ → ℕ → Option Refusal

@@ -3,17 +3,17 @@ use checks::refusal;
 use checks::refusal::Refusal;
 use records::layout;
 ghost use mathlib.Core.Path.{_≡_};
-ghost use Rattle.table.specs.Lookups.{findAnswer, LookedUp};
+ghost use Rattle.table.specs.Lookups.{findAnswer};
 
 // What a lookup comes to: a refusal, no slot, or the slot of that number.
-enum Found {
+pub(crate) enum Found {
     Refused(Refusal),
     Miss,
     Slot(usize),
 }
 
 // What a lookup comes to, with an output of `room` bytes: refusals 1 of the key, 4, then 5 of a hit. It changes nothing.
-fn find(key: &[u8], table: &[u8], room: usize) -> Found
+pub(crate) fn find(key: &[u8], table: &[u8], room: usize) -> Found
     ensures { λ r. ⌜ r ≡ findAnswer (now (key .entry)) (now (table .entry)) room ⌝ }
 {
     if key.len() != layout::KEY_SIZE {
@@ -41,33 +41,6 @@ fn find(key: &[u8], table: &[u8], room: usize) -> Found
             } else {
                 Found::Slot(i)
             }
-        }
-    }
-}
-
-// A refusal, a miss, or the slot, rule and action of a hit.
-pub enum LookupAnswer {
-    Refused(Refusal),
-    Miss,
-    Hit(u16, u16, u16),
-}
-
-// Looks a key up: a hit is counted, and its report goes to the start of `out`. A miss and a refusal (1 of the key, 4, 5) change nothing.
-pub fn lookup(key: &[u8], table: &mut [u8], out: &mut [u8]) -> LookupAnswer
-    ensures { λ r. ⌜ LookedUp (now (key .entry)) (now (table .entry)) (now (out .entry)) r (now (table .exit)) (now (out .exit)) ⌝ }
-{
-    match find(key, table, out.len()) {
-        Found::Refused(refusal) => LookupAnswer::Refused(refusal),
-        Found::Miss => LookupAnswer::Miss,
-        Found::Slot(i) => {
-            let x = slots::hits::count(table, i);
-            let report = end_records::report::Report {
-                slot: i as u16,
-                sequence: x.sequence,
-                hits: x.hits,
-            };
-            end_records::report::put_report(out, report);
-            LookupAnswer::Hit(i as u16, x.rule, x.action)
         }
     }
 }

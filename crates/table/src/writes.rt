@@ -1,17 +1,12 @@
 // The table receives a write of the keeper.
+use crate::WriteAnswer;
 use checks::refusal;
 use checks::refusal::Refusal;
 use records::layout;
 ghost use mathlib.Core.Path.{_≡_};
 ghost use mathlib.Core.Option.{some};
 ghost use Rattle.checks.specs.Refusals.{refusal as refusalOf};
-ghost use Rattle.table.specs.Writes.{takenOf, writeMessageRefusal, writeCallRefusal, Received};
-
-// A write's refusal, or that it is taken.
-pub enum WriteAnswer {
-    Refused(Refusal),
-    Taken,
-}
+ghost use Rattle.table.specs.Writes.{takenOf, writeMessageRefusal, writeCallRefusal};
 
 // Refused with this number, at place 0.
 fn refused(number: u32) -> WriteAnswer
@@ -43,7 +38,7 @@ fn message_answer(message: &[u8], count: usize) -> WriteAnswer
 }
 
 // Whether a write is taken, with an output of `room` bytes: refusal 4 of the table, those of the message, then 5. It changes nothing.
-fn write_answer(table: &[u8], message: &[u8], room: usize) -> WriteAnswer
+pub(crate) fn write_answer(table: &[u8], message: &[u8], room: usize) -> WriteAnswer
     ensures { λ r. ⌜ r ≡ takenOf (writeCallRefusal (now (table .entry)) (now (message .entry)) room) ⌝ }
 {
     if !checks::buffer::slots_fit(table) {
@@ -58,24 +53,5 @@ fn write_answer(table: &[u8], message: &[u8], room: usize) -> WriteAnswer
     if room < layout::REPORT_SIZE {
         return refused(refusal::SHORT_OUTPUT);
     }
-    WriteAnswer::Taken
-}
-
-// Receives a write: a newer one replaces its slot, and the report of the slot as it then is goes to the start of `out`. A refusal changes
-// nothing.
-pub fn write(table: &mut [u8], message: &[u8], out: &mut [u8]) -> WriteAnswer
-    ensures { λ r. ⌜ Received (now (table .entry)) (now (message .entry)) (now (out .entry)) r (now (table .exit)) (now (out .exit)) ⌝ }
-{
-    if let WriteAnswer::Refused(refusal) = write_answer(table, message, out.len()) {
-        return WriteAnswer::Refused(refusal);
-    }
-    let w = end_records::write::write_of(message);
-    let x = slots::store::store(table, w);
-    let report = end_records::report::Report {
-        slot: w.slot,
-        sequence: x.sequence,
-        hits: x.hits,
-    };
-    end_records::report::put_report(out, report);
     WriteAnswer::Taken
 }

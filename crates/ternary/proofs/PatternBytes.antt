@@ -15,8 +15,7 @@ use Rattle.model.specs.Bits.{bitOf, Bytes}
 use Rattle.model.specs.Pattern.{exactAt, sameAt, matches, parts, overlap}
 use Rattle.model.proofs.BelowLaws.{Passed}
 use Rattle.model.proofs.BitLaws.{digit-lt}
-use Rattle.ternary.proofs.ByteLaws.{beq-same, on-bits₃, on-bits₄, bit-and, bit-xor}
-use Rattle.ternary.proofs.ByteLaws.{bit-in, passes, by-byte, row-yes, row-no}
+use Rattle.ternary.proofs.ByteLaws.{beq-same, on-bits₃, on-bits₄, bit-and, bit-xor, bit-in, passes, by-byte, row-yes, row-no}
 
 pub bit-of-lt : (x q : ℕ) → bitOf x q < 2
 bit-of-lt x q = digit-lt x (7 - q)

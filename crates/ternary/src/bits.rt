@@ -10,6 +10,7 @@ ghost use Rattle.model.specs.Pattern.{canonical as canonicalAt, firstStray, wil
 ghost use Rattle.ternary.specs.Sizes.{positions};
 ghost use Rattle.ternary.specs.Strays.{strayOf};
 ghost use Rattle.ternary.specs.Counts.{exactBits};
+ghost use Rattle.ternary.specs.Fixed.{Fixed};
 
 // The bit of the row at position p.
 pub fn bit(row: [u8; KEY_SIZE], p: usize) -> u8
@@ -70,4 +71,19 @@ pub fn wildcard_bits(mask: [u8; KEY_SIZE]) -> usize
     ensures { λ r. ⌜ r ≡ wildcardsAt positions mask ⌝ }
 {
     POSITIONS - exact_bits(mask)
+}
+
+// The pattern with position p made exact at the key's bit.
+pub fn fix_bit(pattern: Pattern, key: [u8; KEY_SIZE], p: usize) -> Pattern
+    requires { ⌜ p < positions ⌝ }
+    ensures { λ r. ⌜ Fixed (pattern .value) (pattern .mask) key p (r .value) (r .mask) ⌝ }
+{
+    let i = p / 8;
+    let one: u8 = 128 >> (p % 8);
+    let mut value = pattern.value;
+    let mut mask = pattern.mask;
+    // Of the byte's bits only that at p is taken from the key.
+    value[i] = value[i] ^ ((value[i] ^ key[i]) & one);
+    mask[i] = mask[i] | one;
+    Pattern { value, mask }
 }

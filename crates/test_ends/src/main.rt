@@ -28,17 +28,17 @@ const LENGTHS: usize = 1;
 
 // Each of the following says what a call answers, and gives how many bytes of the output are the answer.
 
-fn say_lookup(answer: table::lookups::LookupAnswer) -> usize {
+fn say_lookup(answer: table::LookupAnswer) -> usize {
     match answer {
-        table::lookups::LookupAnswer::Refused(r) => {
+        table::LookupAnswer::Refused(r) => {
             say_refused(r);
             0
         }
-        table::lookups::LookupAnswer::Miss => {
+        table::LookupAnswer::Miss => {
             say(b" miss");
             0
         }
-        table::lookups::LookupAnswer::Hit(slot, rule, action) => {
+        table::LookupAnswer::Hit(slot, rule, action) => {
             say_hit(slot, rule, action);
             layout::REPORT_SIZE
         }
@@ -52,13 +52,13 @@ fn say_hit(slot: u16, rule: u16, action: u16) {
     );
 }
 
-fn say_write(answer: table::writes::WriteAnswer) -> usize {
+fn say_write(answer: table::WriteAnswer) -> usize {
     match answer {
-        table::writes::WriteAnswer::Refused(r) => {
+        table::WriteAnswer::Refused(r) => {
             say_refused(r);
             0
         }
-        table::writes::WriteAnswer::Taken => {
+        table::WriteAnswer::Taken => {
             say(b" taken");
             layout::REPORT_SIZE
         }
@@ -152,11 +152,11 @@ fn say_given(s: &[u8]) {
 // The call of that number, with the policy, the key or message, the table or keeper, and the output.
 fn call(what: usize, policy: &[u8], given: &[u8], state: &mut [u8], out: &mut [u8]) -> usize {
     match what {
-        1 => say_lookup(table::lookups::lookup(given, state, out)),
-        2 => say_write(table::writes::write(state, given, out)),
+        1 => say_lookup(table::lookup(given, state, out)),
+        2 => say_write(table::write(state, given, out)),
         3 => say_miss(miss::miss(policy, given, state, out)),
         4 => say_report(keeper::report(state, given)),
-        5 => say_open(keeper::open_list::open_list(state, out)),
+        5 => say_open(keeper::open_list(state, out)),
         6 => {
             say_show(show::show_answer(policy, given, state));
             say_given(show::show(policy, given, state));

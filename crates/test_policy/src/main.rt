@@ -34,11 +34,11 @@ fn say_check(answer: policy::PolicyAnswer) {
     }
 }
 
-fn say_best(answer: policy::search::BestAnswer) {
+fn say_best(answer: policy::BestAnswer) {
     match answer {
-        policy::search::BestAnswer::Refused(r) => say_refused(r),
-        policy::search::BestAnswer::NoRule => say(b" none"),
-        policy::search::BestAnswer::Rule(number, action) => {
+        policy::BestAnswer::Refused(r) => say_refused(r),
+        policy::BestAnswer::NoRule => say(b" none"),
+        policy::BestAnswer::Rule(number, action) => {
             say_numbers(b" rule # action #", &[number as u64, action as u64]);
         }
     }
@@ -136,7 +136,7 @@ fn pattern(policy: &[u8], i: usize) -> ternary::Pattern
 fn call(what: usize, policy: &[u8], key: &[u8], number: usize, room: usize) {
     match what {
         1 => say_check(policy::check(policy)),
-        2 => say_best(policy::search::best(policy, key)),
+        2 => say_best(policy::best(policy, key)),
         3 => say_record(
             policy::record::record_answer(policy, number),
             policy::record::rule_record(policy, number),

@@ -26,5 +26,5 @@ pub extern "C" fn wg_report(keeper: &mut [u8], message: &[u8]) -> WgDone
 pub extern "C" fn wg_open(keeper: &[u8], out: &mut [u8]) -> WgCount
     ensures { λ r. ⌜ OpenCall (now (keeper .entry)) (now (out .entry)) r (now (out .exit)) ⌝ }
 {
-    c_answers::list_for_c::list_numbers(keeper::open_list::open_list(keeper, out))
+    c_answers::list_for_c::list_numbers(keeper::open_list(keeper, out))
 }

@@ -27,7 +27,7 @@ pub extern "C" fn wg_check(policy: &[u8]) -> WgCount
 pub extern "C" fn wg_best(policy: &[u8], key: &[u8]) -> WgBestAnswer
     ensures { λ r. ⌜ r ≡ bestNumbers (bestAnswer (now (policy .entry)) (now (key .entry))) ⌝ }
 {
-    c_answers::policy_for_c::best_numbers(policy::search::best(policy, key))
+    c_answers::policy_for_c::best_numbers(policy::best(policy, key))
 }
 
 // Where the record of that number lies in the policy.

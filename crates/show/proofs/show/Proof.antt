@@ -6,7 +6,7 @@ use native.Mathlib.Omega.{arith}
 use native.Mathlib.Nat.{add-sub-cancel-left}
 use Rattle.ternary.specs.Sizes.{keySize}
 use Rattle.records.specs.Rules.{ruleCount}
-use Rattle.end_records.specs.Slots.{slotCount}
+use Rattle.records.specs.SlotBuffers.{slotCount}
 use Rattle.show.specs.Answers.{shownPart}
 use Rattle.show.proofs.AnswerLaws.{table-below, policy-below}
 use Rattle.show.proofs.show.Statement.{statement}

@@ -5,9 +5,9 @@ use mathlib.Core.Logic.{_⊎_, ⊎-elim}
 use Prim.Native.Nat.{ℕ}
 use native.Mathlib.Omega.{arith}
 use denote.Enum.Declared.{tagOf}
-use Rattle.table.specs.declared.lookups.LookupAnswer.{LookupAnswer}
-use Rattle.table.specs.declared.lookups.LookupAnswer.the-variants.{Refused, Miss, Hit}
-use Rattle.table.proofs.lookups.LookupAnswer.{the-type}
+use Rattle.table.specs.declared.LookupAnswer.{LookupAnswer}
+use Rattle.table.specs.declared.LookupAnswer.the-variants.{Refused, Miss, Hit}
+use Rattle.table.proofs.LookupAnswer.{the-type}
 use Rattle.ternary.proofs.ByteLaws.{bytes-of}
 use Rattle.run.proofs.HitLaws.{packet-hit, packet-missed}
 use Rattle.run.proofs.packet.one_packet.Statement.{statement}

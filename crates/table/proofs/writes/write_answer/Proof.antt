@@ -6,7 +6,7 @@ use mathlib.Core.Option.{none, some}
 use borrow.Author.Tests.{le-leb, lt-leb}
 use Rattle.model.proofs.Cases.{not-true, not-false}
 use Rattle.ternary.specs.Sizes.{keySize}
-use Rattle.end_records.specs.Slots.{slotCount}
+use Rattle.records.specs.SlotBuffers.{slotCount}
 use Rattle.checks.specs.BufferRefusals.{slotsFit, slotsRefusal}
 use Rattle.table.specs.Writes.{writeMessageRefusal, writeCallRefusal}
 use Rattle.table.proofs.WriteLaws.{taken-refused, taken-passed}

@@ -7,8 +7,8 @@ use Rattle.end_records.specs.SlotStructs.{asSlot}
 use Rattle.table.specs.Lookups.{findAnswer}
 use Rattle.table.specs.declared.lookups.Found.the-variants.{Slot}
 use Rattle.table.proofs.LookupLaws.{hit-below, hit-few, hit-fits, looked-refused, looked-missed, looked-hit}
-use Rattle.table.proofs.lookups.lookup.Statement.{statement}
-use Rattle.table.proofs.lookups.lookup.Tie as tie
+use Rattle.table.proofs.lookup.Statement.{statement}
+use Rattle.table.proofs.lookup.Tie as tie
 
 -- the slot that was found
 there : (c : tie.After-i) → let a = c .before .before .before .before .before .before .before .args in

@@ -2,8 +2,8 @@
 use borrow.Author.Needs.{needs}
 use Rattle.ternary.proofs.ByteLaws.{bytes-of}
 use Rattle.ternary.proofs.StoreLaws.{put-merged, put-raised}
-use Rattle.ternary.proofs.fixing.fix_bit.Statement.{statement}
-use Rattle.ternary.proofs.fixing.fix_bit.Tie as tie
+use Rattle.ternary.proofs.bits.fix_bit.Statement.{statement}
+use Rattle.ternary.proofs.bits.fix_bit.Tie as tie
 
 returns : tie.Need-returns
 returns c = record {

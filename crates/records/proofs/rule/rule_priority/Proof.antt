@@ -2,9 +2,9 @@
 use borrow.Author.Needs.{needs}
 use mathlib.Core.Path.{sym, _∙_}
 use Rattle.ternary.specs.Sizes.{keySize}
 use Rattle.records.proofs.RuleLaws.{priority-in-place}
-use Rattle.policy.proofs.rule_priority.Statement.{statement}
-use Rattle.policy.proofs.rule_priority.Tie as tie
+use Rattle.records.proofs.rule.rule_priority.Statement.{statement}
+use Rattle.records.proofs.rule.rule_priority.Tie as tie
 
 returns : tie.Need-returns
 returns c =

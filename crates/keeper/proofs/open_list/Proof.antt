@@ -3,8 +3,8 @@ use borrow.Author.Needs.{needs}
 use native.Mathlib.Omega.{arith}
 use Rattle.model.proofs.Cases.{not-true, not-false}
 use Rattle.keeper.proofs.OpenLaws.{list-few, few-slots, refused-slots, opened-list}
-use Rattle.keeper.proofs.open_list.open_list.Statement.{statement}
-use Rattle.keeper.proofs.open_list.open_list.Tie as tie
+use Rattle.keeper.proofs.open_list.Statement.{statement}
+use Rattle.keeper.proofs.open_list.Tie as tie
 
 returns : tie.Need-returns
 returns c = refused-slots _ _ (c .before .slots-fit .ensures) (not-true (c .if1 .taken))

@@ -7,10 +7,10 @@ use Rattle.ends.specs.Records.{Write}
 use Rattle.end_records.specs.SlotStructs.{asSlot}
 use Rattle.end_records.specs.MessageStructs.{asWrite}
 use Rattle.table.specs.Writes.{writeCallRefusal, takenOf, GoodCall}
-use Rattle.table.specs.declared.writes.WriteAnswer.the-variants.{Taken}
+use Rattle.table.specs.declared.WriteAnswer.the-variants.{Taken}
 use Rattle.table.proofs.WriteLaws.{taken-good, received-refused, received-taken}
-use Rattle.table.proofs.writes.write.Statement.{statement}
-use Rattle.table.proofs.writes.write.Tie as tie
+use Rattle.table.proofs.write.Statement.{statement}
+use Rattle.table.proofs.write.Tie as tie
 
 returns : tie.Need-returns
 returns c = received-refused _ _ _ _ (sym (c .before .refusal .given .1) ∙ c .before .before .before .write-answer .ensures)

@@ -8,8 +8,8 @@ use Rattle.policy.specs.Refusals.{policyRefusal}
 use Rattle.policy.specs.Answers.{bestRefusal}
 use Rattle.policy.proofs.CheckLaws.{check-refused, check-passed, passed-few}
 use Rattle.policy.specs.BestAnswers.{bestAnswer}
-use Rattle.policy.proofs.search.best.Statement.{statement}
-use Rattle.policy.proofs.search.best.Tie as tie
+use Rattle.policy.proofs.best.Statement.{statement}
+use Rattle.policy.proofs.best.Tie as tie
 
 returns : tie.Need-returns
 unfolding bestAnswer bestRefusal

@@ -3,8 +3,8 @@ use borrow.Author.Needs.{needs}
 use native.Mathlib.Omega.{arith}
 use Rattle.end_records.specs.SlotStructs.{asSlot}
 use Rattle.slots.proofs.StoreLaws.{stored-kept, stored-new}
-use Rattle.slots.proofs.store.store.Statement.{statement}
-use Rattle.slots.proofs.store.store.Tie as tie
+use Rattle.slots.proofs.entry.store.Statement.{statement}
+use Rattle.slots.proofs.entry.store.Tie as tie
 
 returns : tie.Need-returns
 returns c =

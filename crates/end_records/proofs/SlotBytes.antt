@@ -17,10 +17,11 @@ use Rattle.buffers.specs.Parts.{recordsIn, spelled}
 use Rattle.buffers.proofs.ByteLaws.{byte-none, append-bytes}
 use Rattle.buffers.proofs.RowLaws.{records-cons}
 use Rattle.records.specs.Layout.{slotSize}
-use Rattle.end_records.specs.Slots.{decodeSlot, encodeSlot, slotCount, slots}
-use Rattle.checks.specs.BufferRefusals.{WholeSlots}
-use Rattle.end_records.proofs.SlotLaws.{slot-count, slot-at, decode-encode-slot, length-encode-slot}
+use Rattle.end_records.specs.Slots.{decodeSlot, encodeSlot, slots}
+use Rattle.records.specs.SlotBuffers.{slotCount, WholeSlots}
+use Rattle.end_records.proofs.SlotLaws.{slot-count, slot-at, decode-encode-slot, length-encode-slot, slots-spell}
 use Rattle.end_records.proofs.ByteSlots.{ByteSlot, slot-byte, encode-bytes}
+use Rattle.records.proofs.SlotBufferLaws.{as-whole}
 
 -- so many slots, each of which bytes can hold
 pub record ByteSlots (count : ℕ) (s : List Slot) : Type 0 where
@@ -86,3 +87,7 @@ unfolding slots
 spelled-slots count s h =
     let n : slotCount keySize (spelled encodeSlot s) ≡ count = omega (arith, spelled-long count s h) in
     rw n (records-back count s h)
+
+-- bytes as long as whole slots are spelled by their slots
+pub spelled-back : {a : List ℕ} (b : List ℕ) → length b ≡ length a → WholeSlots a → Bytes b → spelled encodeSlot (slots keySize b) ≡ b
+spelled-back b e whole h = let w : WholeSlots b = as-whole e whole in slots-spell keySize b (w .whole) h
