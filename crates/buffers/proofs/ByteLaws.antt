@@ -5,9 +5,9 @@ use native.Mathlib.Omega.{arith}
 use lib.ListN.{length, take, drop, getD, set}
 use Rattle.model.specs.Bits.{Bytes, putBit, withBits}
 use Rattle.model.proofs.BitLaws.{put-lt}
-use Rattle.buffers.specs.Numbers.{be, toBe}
+use Rattle.buffers.specs.BigEndian.{be, toBe}
 use Rattle.buffers.specs.Parts.{part, splice}
-use Rattle.buffers.proofs.NumberLaws.{be-two, be-halves}
+use Rattle.buffers.proofs.BigEndianLaws.{be-two, be-halves}
 use Rattle.buffers.proofs.PartLaws.{part-bytes, drop-bytes}
 
 pub byte-more : {b : ℕ} {bs : List ℕ} → b < 256 → Bytes bs → Bytes (b ∷ bs)

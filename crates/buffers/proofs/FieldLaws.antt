@@ -6,10 +6,10 @@ use native.Mathlib.Omega.{arith}
 use lib.ListN.{length, take, drop, getD, length-drop, take-append-drop}
 use lib.Seq.{take-all, take-at, drop-at, drop-drop, getD-drop}
 use Rattle.model.specs.Bits.{Bytes}
-use Rattle.buffers.specs.Numbers.{be, toBe}
+use Rattle.buffers.specs.BigEndian.{be, toBe}
 use Rattle.buffers.specs.Parts.{part}
 use Rattle.buffers.proofs.PartLaws.{reads-part, part-bytes, part-length}
-use Rattle.buffers.proofs.NumberLaws.{toBe-be}
+use Rattle.buffers.proofs.BigEndianLaws.{toBe-be}
 
 -- ---- encode, then decode
 

@@ -1,5 +1,5 @@
 -- Laws of numbers, of parts, of bytes, and of records of one size.
-pub mod NumberLaws
+pub mod BigEndianLaws
 pub mod PartLaws
 pub mod ByteLaws
 pub mod FieldLaws

@@ -1,3 +1,3 @@
 -- Bytes of a lent buffer: numbers, parts, and records of one size.
-pub mod Numbers
+pub mod BigEndian
 pub mod Parts

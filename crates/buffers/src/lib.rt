@@ -2,7 +2,7 @@
 ghost use mathlib.Core.Path.{_≡_};
 ghost use Prim.Native.Nat.{_+_, _≤_, _<_, max};
 ghost use lib.ListN.{length};
-ghost use Rattle.buffers.specs.Numbers.{be, toBe};
+ghost use Rattle.buffers.specs.BigEndian.{be, toBe};
 ghost use Rattle.buffers.specs.Parts.{part, splice};
 
 // The byte as a wider number.

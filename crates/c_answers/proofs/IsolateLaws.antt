@@ -13,7 +13,7 @@ use Rattle.ternary.specs.Sizes.{positions}
 use Rattle.buffers.specs.Parts.{splice}
 use Rattle.checks.specs.Refusals.{refusal}
 use Rattle.checks.specs.declared.refusal.Refusal.{Refusal}
-use Rattle.isolate.specs.Answers.{isolateRefusal, answerOf, isolatedAnswer, isolateAnswer}
+use Rattle.isolate.specs.Answers.{isolateRefusal, isolateAnswerOf, isolatedAnswer, isolateAnswer}
 use Rattle.isolate.specs.declared.IsolateAnswer.{IsolateAnswer}
 use Rattle.isolate.specs.declared.Said.{Said}
 use Rattle.isolate.specs.declared.Said.the-variants.{Refused, Isolated}
@@ -22,7 +22,7 @@ use Rattle.c_answers.specs.Isolate.{patternSize, patternRefusal, refused
 use Rattle.c_answers.specs.declared.structs.WgIsolated.{WgIsolated}
 use Rattle.c_answers.specs.IsolateCalls.{isolatedIn, IsolateCall}
 
-of-refused : (o : Option Refusal) (x : IsolatedRule) (r : Refusal) → (answerOf o x) .said ≡ Refused r → o ≡ some r
+of-refused : (o : Option Refusal) (x : IsolatedRule) (r : Refusal) → (isolateAnswerOf o x) .said ≡ Refused r → o ≡ some r
 of-refused (some s) x r e = cc
 of-refused none x r e = let z : _≡_ {A = ℕ} 0 1 = cc in absurd (omega arith)
 

@@ -16,10 +16,10 @@ use Rattle.c_answers.specs.declared.structs.WgIsolated.{WgIsolated}
 abbrev pub patternSize : ℕ
 patternSize = keySize + keySize
 
--- the call's own refusals; then 5, where the output has so much room
+-- the call's own refusals; then 5, where the output has outLen bytes
 unfoldable pub patternRefusal : List ℕ → List ℕ → ℕ → ℕ → Option Refusal
-patternRefusal policy key number room =
-    orElse (isolateRefusal policy key number) (need (not (ltb room patternSize)) shortOutput none)
+patternRefusal policy key number outLen =
+    orElse (isolateRefusal policy key number) (need (not (ltb outLen patternSize)) shortOutput none)
 
 abbrev pub refusedCounts : Refusal → WgIsolated
 refusedCounts r = record { refusal = r .number; place = r .place; fixed = 0; wildcards = 0 }

@@ -5,7 +5,7 @@ use Prim.Native.Nat.{ℕ}
 use Rattle.ends.specs.Records.{Totals}
 use Rattle.totals.specs.Sums.{asTotals}
 use Rattle.totals.specs.declared.Totals.{Totals as TotalsStruct}
-use Rattle.run.specs.Runs.{Shown, runOf}
+use Rattle.run.specs.Runs.{RunResult, runOf}
 use Rattle.run.specs.declared.RunAnswer.{RunAnswer}
 use Rattle.run.specs.declared.RunAnswer.the-variants.{Refused, Packets}
 use Rattle.c_answers.specs.declared.structs.WgCount.{WgCount}
@@ -16,21 +16,21 @@ runNumbers (Refused r) = record { refusal = r .number; place = r .place; count =
 runNumbers (Packets n) = record { refusal = 0; place = 0; count = n }
 
 -- all that the call shows
-pub record RunSeen : Type 0 where
+pub record RunResultForC : Type 0 where
   pub numbers : WgCount
   pub totals : Totals
   pub table : List ℕ
   pub keeper : List ℕ
   pub out : List ℕ
 
-abbrev pub seen : WgCount → TotalsStruct → List ℕ → List ℕ → List ℕ → RunSeen
-seen r t table keeper out = record { numbers = r; totals = asTotals t; table = table; keeper = keeper; out = out }
+abbrev pub resultForC : WgCount → TotalsStruct → List ℕ → List ℕ → List ℕ → RunResultForC
+resultForC r t table keeper out = record { numbers = r; totals = asTotals t; table = table; keeper = keeper; out = out }
 
 -- what the run shows, its answer as numbers
-abbrev pub seenOf : Shown → RunSeen
-seenOf s = record { numbers = runNumbers (s .answer); totals = s .totals; table = s .table; keeper = s .keeper; out = s .out }
+abbrev pub runForC : RunResult → RunResultForC
+runForC s = record { numbers = runNumbers (s .answer); totals = s .totals; table = s .table; keeper = s .keeper; out = s .out }
 
 -- one equation: the call shows what the run shows
 abbrev pub RunCall : (policy trace table keeper out : List ℕ) → TotalsStruct → WgCount → TotalsStruct → (table′ keeper′ out′ : List ℕ) → Type 0
 RunCall policy trace table keeper out t r t′ table′ keeper′ out′ =
-    seen r t′ table′ keeper′ out′ ≡ seenOf (runOf policy trace table keeper out (asTotals t))
+    resultForC r t′ table′ keeper′ out′ ≡ runForC (runOf policy trace table keeper out (asTotals t))

@@ -14,7 +14,7 @@ use Rattle.model.proofs.Cases.{by-cases}
 use Rattle.ternary.proofs.StrayLaws.{canonical-clean, clean-canonical}
 use Rattle.buffers.specs.Parts.{part}
 use Rattle.records.specs.Layout.{ruleValue, ruleMask, writeValue, writeMask}
-use Rattle.checks.specs.Flaws.{Zeros, firstNonzero, strayIn, flawOf, isFlawed}
+use Rattle.checks.specs.Flaws.{Zeros, firstNonzero, strayByteIn, flawOf, isFlawed}
 use Rattle.checks.specs.Flaws.{ruleSpares, traceSpares, writeSpares, reportSpares, ruleFlaw, traceFlaw, writeFlaw, reportFlaw}
 use Rattle.checks.specs.declared.flaw.Flaw.{Flaw}
 use Rattle.checks.specs.declared.flaw.Flaw.the-variants.{Clean, Spare, Stray}
@@ -47,9 +47,9 @@ spare-iff ats c =
 
 -- a record with a pattern besides
 pattern-iff : (w value mask : ℕ) (ats c : List ℕ)
-    → (flawOf (firstNonzero ats c) (strayIn w value mask c) ≡ Clean) ↔ (Zeros ats c × (canonical (w * 8) (part w value c) (part w mask c) ≡ true))
+    → (flawOf (firstNonzero ats c) (strayByteIn w value mask c) ≡ Clean) ↔ (Zeros ats c × (canonical (w * 8) (part w value c) (part w mask c) ≡ true))
 pattern-iff w value mask ats c = (
-  λ e. let n = neither (firstNonzero ats c) (strayIn w value mask c) e in
+  λ e. let n = neither (firstNonzero ats c) (strayByteIn w value mask c) e in
       (zeros-of ats c (n .0), canonical-clean w (part w value c) (part w mask c) (none-mapped (λ i. value + i) _ (n .1))),
   λ h. rw (of-zeros ats c (h .0), clean-canonical w (part w value c) (part w mask c) (h .1)),
 )

@@ -23,8 +23,8 @@ Zeros [] c = Unit {0}
 Zeros (at ∷ ats) c = (getD c at 0 ≡ 0) × Zeros ats c
 
 -- the lowest byte of the record's value that has a bit under a wildcard, counted from the record's start
-abbrev pub strayIn : ℕ → ℕ → ℕ → List ℕ → Option ℕ
-strayIn w value mask c = Option·map (λ i. value + i) (firstStray w (part w value c) (part w mask c))
+abbrev pub strayByteIn : ℕ → ℕ → ℕ → List ℕ → Option ℕ
+strayByteIn w value mask c = Option·map (λ i. value + i) (firstStray w (part w value c) (part w mask c))
 
 -- the flaw that is told: a spare byte before a value bit
 abbrev pub flawOf : Option ℕ → Option ℕ → Flaw
@@ -49,13 +49,13 @@ reportSpares = reportZero ∷ []
 -- ---- the flaw of a record
 
 unfoldable pub ruleFlaw : ℕ → List ℕ → Flaw
-ruleFlaw w c = flawOf (firstNonzero (ruleSpares w) c) (strayIn w ruleValue (ruleMask w) c)
+ruleFlaw w c = flawOf (firstNonzero (ruleSpares w) c) (strayByteIn w ruleValue (ruleMask w) c)
 
 unfoldable pub traceFlaw : ℕ → List ℕ → Flaw
 traceFlaw w c = flawOf (firstNonzero (traceSpares w) c) none
 
 unfoldable pub writeFlaw : ℕ → List ℕ → Flaw
-writeFlaw w c = flawOf (firstNonzero (writeSpares w) c) (strayIn w writeValue (writeMask w) c)
+writeFlaw w c = flawOf (firstNonzero (writeSpares w) c) (strayByteIn w writeValue (writeMask w) c)
 
 unfoldable pub reportFlaw : List ℕ → Flaw
 reportFlaw c = flawOf (firstNonzero reportSpares c) none

@@ -6,7 +6,7 @@ ghost use Prim.Native.Nat.{_+_, _≤_};
 ghost use lib.ListN.{length};
 ghost use Rattle.ternary.specs.Sizes.{keySize};
 ghost use Rattle.records.specs.Layout.{ruleSize, traceSize, writeSize, reportSize};
-ghost use Rattle.checks.specs.Flaws.{flawOf, strayIn, ruleFlaw, traceFlaw, writeFlaw, reportFlaw};
+ghost use Rattle.checks.specs.Flaws.{flawOf, strayByteIn, ruleFlaw, traceFlaw, writeFlaw, reportFlaw};
 
 // What is wrong with a record, with the lowest byte of it that is: a spare byte is told before a value bit.
 pub enum Flaw {
@@ -18,7 +18,7 @@ pub enum Flaw {
 // The value bits of a record under its wildcards, as a flaw: rows at `value` and at `mask`.
 fn stray_flaw(r: &[u8], value: usize, mask: usize) -> Flaw
     requires { ⌜ (value + keySize ≤ length (now r)) × (mask + keySize ≤ length (now r)) ⌝ }
-    ensures { λ x. ⌜ x ≡ flawOf none (strayIn keySize value mask (now (r .entry))) ⌝ }
+    ensures { λ x. ⌜ x ≡ flawOf none (strayByteIn keySize value mask (now (r .entry))) ⌝ }
 {
     match ternary::bits::first_stray(
         &r[value..value + layout::KEY_SIZE],

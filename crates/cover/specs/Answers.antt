@@ -21,10 +21,10 @@ use Rattle.lists.specs.declared.ListAnswer.{ListAnswer}
 abbrev pub coverList : List ℕ → ℕ → List ℕ
 coverList policy number = dependents positions (rules keySize policy) number
 
--- policy 1, 2, 3; 6; 5, where the output has so much room
+-- policy 1, 2, 3; 6; 5, where the output has outLen bytes
 unfoldable pub coverRefusal : List ℕ → ℕ → ℕ → Option Refusal
-coverRefusal policy number room =
-    orElse (policyRefusal policy) (need (ltb number (ruleCount keySize policy)) noSuchRule (listRefusal (coverList policy number) room))
+coverRefusal policy number outLen =
+    orElse (policyRefusal policy) (need (ltb number (ruleCount keySize policy)) noSuchRule (listRefusal (coverList policy number) outLen))
 
 -- the answer, and the output after it: the numbers of the cover list at its start, every other byte as it was
 pub record Covered (policy : List ℕ) (number : ℕ) (out : List ℕ) (r : ListAnswer) (out′ : List ℕ) : Type 0 where

@@ -7,8 +7,8 @@ use native.Mathlib.Omega.{arith}
 use lib.ListN.{length}
 use Rattle.model.specs.Bits.{Bytes}
 use Rattle.ends.specs.Records.{Slot, entryOf, slotWith}
-use Rattle.ends.specs.Ends.{top, counted, confirmed}
-use Rattle.buffers.specs.Numbers.{toBe}
+use Rattle.ends.specs.Ends.{mostHits, counted, confirmed}
+use Rattle.buffers.specs.BigEndian.{toBe}
 use Rattle.buffers.specs.Parts.{splice, chunk}
 use Rattle.buffers.proofs.PartLaws.{part-length, part-bytes, splice-part}
 use Rattle.buffers.proofs.ByteLaws.{byte-more, byte-none, append-bytes, toBe-bytes, splice-bytes, two-below, four-below}
@@ -76,7 +76,7 @@ with-byte w x hits settled spare h low marked spared =
 
 -- one hit more; and confirmed by a report
 pub counted-byte : (w : ℕ) (x : Slot) → ByteSlot w x → ByteSlot w (counted x)
-counted-byte w x h = with-byte w x (min (x .hits + 1) top) (x .settled) (x .spare) h (omega arith) (h .settled-byte) (h .spare-byte)
+counted-byte w x h = with-byte w x (min (x .hits + 1) mostHits) (x .settled) (x .spare) h (omega arith) (h .settled-byte) (h .spare-byte)
 
 pub confirmed-byte : (w : ℕ) (x : Slot) (hits : ℕ) → ByteSlot w x → hits < 2 ^ 32 → ByteSlot w (confirmed x hits)
 confirmed-byte w x hits h low =

@@ -6,7 +6,7 @@ use native.Mathlib.Omega.{arith}
 use lib.ListN.{getD, drop}
 use lib.Seq.{getD-take, getD-drop}
 use Rattle.ends.specs.Records.{slotAt}
-use Rattle.buffers.specs.Numbers.{be}
+use Rattle.buffers.specs.BigEndian.{be}
 use Rattle.buffers.specs.Parts.{part}
 use Rattle.buffers.proofs.PartLaws.{part-part}
 use Rattle.records.specs.Layout.{slotSequence, slotHits, slotValue, slotMask, slotSettled, slotSize}

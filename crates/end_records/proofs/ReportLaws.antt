@@ -6,7 +6,7 @@ use native.Mathlib.Omega.{arith}
 use lib.ListN.{length, getD}
 use Rattle.model.specs.Bits.{Bytes}
 use Rattle.ends.specs.Records.{Report}
-use Rattle.buffers.proofs.NumberLaws.{be-toBe}
+use Rattle.buffers.proofs.BigEndianLaws.{be-toBe}
 use Rattle.buffers.proofs.FieldLaws.{number-then, number-last, pair-then}
 use Rattle.records.specs.Layout.{reportKind, reportZero, reportSlot, reportSequence, reportHits, reportSize, isReport}
 use Rattle.end_records.specs.Reports.{decodeReport, encodeReport, ReportFits}

@@ -7,10 +7,10 @@ use native.Mathlib.Omega.{arith}
 use lib.ListN.{length, take, drop, set, length-append}
 use Rattle.model.specs.Bits.{Bytes}
 use Rattle.ends.specs.Records.{Slot, slotAt, cleared}
-use Rattle.buffers.specs.Numbers.{be, toBe}
+use Rattle.buffers.specs.BigEndian.{be, toBe}
 use Rattle.buffers.specs.Parts.{spelled}
 use Rattle.buffers.proofs.PartLaws.{length-splice}
-use Rattle.buffers.proofs.NumberLaws.{be-toBe}
+use Rattle.buffers.proofs.BigEndianLaws.{be-toBe}
 use Rattle.buffers.proofs.FieldLaws.{drop-past, part-past, byte-past, value-there, mask-there, after-rows, part-then, number-then, pair-last}
 use Rattle.buffers.proofs.RecordLaws.{records-count, records-at, records-put, records-spell}
 use Rattle.records.specs.Layout.{slotSequence, slotHits, slotValue, slotMask, slotAction, slotRule, slotSettled, slotSize}

@@ -6,8 +6,8 @@ use native.Mathlib.Omega.{arith}
 use lib.ListN.{length, take, drop, getD, length-append}
 use Rattle.model.specs.Bits.{Bytes}
 use Rattle.ends.specs.Records.{Write}
-use Rattle.buffers.specs.Numbers.{be, toBe}
-use Rattle.buffers.proofs.NumberLaws.{be-toBe}
+use Rattle.buffers.specs.BigEndian.{be, toBe}
+use Rattle.buffers.proofs.BigEndianLaws.{be-toBe}
 use Rattle.buffers.proofs.FieldLaws.{drop-past, part-past, byte-past, value-there, mask-there, after-rows}
 use Rattle.buffers.proofs.FieldLaws.{part-then, number-then, pair-then, pair-last}
 use Rattle.records.specs.Layout.{writeKind, writeZero, writeSlot, writeSequence, writeValue, writeMask, writeAction, writeRule}

@@ -2,7 +2,7 @@
 use Prim.Native.Nat.{ℕ, _^_, _<_}
 use mathlib.Core.List.{List, [], _∷_, _++_}
 use Rattle.ends.specs.Records.{Report}
-use Rattle.buffers.specs.Numbers.{be, toBe}
+use Rattle.buffers.specs.BigEndian.{be, toBe}
 use Rattle.buffers.specs.Parts.{part}
 use Rattle.records.specs.Layout.{reportSlot, reportSequence, reportHits, isReport}
 

@@ -4,7 +4,7 @@ use mathlib.Core.Path.{_≡_}
 use mathlib.Core.List.{List, [], _∷_, _++_}
 use lib.ListN.{length, getD, set}
 use Rattle.ends.specs.Records.{Slot}
-use Rattle.buffers.specs.Numbers.{be, toBe}
+use Rattle.buffers.specs.BigEndian.{be, toBe}
 use Rattle.buffers.specs.Parts.{part, splice, chunk, recordsIn}
 use Rattle.records.specs.Layout.{slotSequence, slotHits, slotValue, slotMask, slotAction, slotRule, slotSettled, slotSpare, slotSize}
 use Rattle.records.specs.SlotBuffers.{slotCount}

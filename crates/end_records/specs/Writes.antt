@@ -4,7 +4,7 @@ use mathlib.Core.Path.{_≡_}
 use mathlib.Core.List.{List, [], _∷_, _++_}
 use lib.ListN.{length}
 use Rattle.ends.specs.Records.{Write}
-use Rattle.buffers.specs.Numbers.{be, toBe}
+use Rattle.buffers.specs.BigEndian.{be, toBe}
 use Rattle.buffers.specs.Parts.{part}
 use Rattle.records.specs.Layout.{writeSlot, writeSequence, writeValue, writeMask, writeAction, writeRule, isWrite}
 

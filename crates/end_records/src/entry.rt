@@ -5,7 +5,7 @@ ghost use mathlib.Core.List.{[], _∷_, _++_};
 ghost use Prim.Native.Nat.{_+_, _≤_};
 ghost use lib.ListN.{length};
 ghost use Rattle.ternary.specs.Sizes.{keySize};
-ghost use Rattle.buffers.specs.Numbers.{toBe};
+ghost use Rattle.buffers.specs.BigEndian.{toBe};
 ghost use Rattle.buffers.specs.Parts.{splice};
 ghost use Rattle.records.specs.Layout.{slotSize};
 

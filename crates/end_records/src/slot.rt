@@ -8,7 +8,7 @@ ghost use mathlib.Core.List.{_++_};
 ghost use Prim.Native.Nat.{_<_};
 ghost use lib.ListN.{length};
 ghost use Rattle.ternary.specs.Sizes.{keySize};
-ghost use Rattle.buffers.specs.Numbers.{toBe};
+ghost use Rattle.buffers.specs.BigEndian.{toBe};
 ghost use Rattle.records.specs.Layout.{slotSize};
 ghost use Rattle.end_records.specs.Slots.{decodeSlot, encodeSlot, slotIn, SlotPut};
 ghost use Rattle.records.specs.SlotBuffers.{slotCount};

@@ -10,16 +10,16 @@ use lib.ListN.{set, replicate, length-replicate, getElem?}
 use lib.Seq.{getD-set-same}
 use borrow.Author.Tests.{eqb-true, ltb-true, ltb-false}
 use Rattle.ends.specs.Records.{Write, Report, entryIn, written, reportFor, cleared, slotAt}
-use Rattle.ends.specs.Ends.{Key, Decisions, firstFor, counted, hitAt, countedAt, lookup, afterLookup}
-use Rattle.ends.specs.Ends.{writeRefusal, isNewer, afterWrite, writeReport, roomIn, missOf, onMiss, nextEntry}
+use Rattle.ends.specs.Ends.{Key, PolicyView, firstFor, counted, hitAt, countedAt, lookup, afterLookup}
+use Rattle.ends.specs.Ends.{writeRefusal, isNewer, afterWrite, writeReport, slotForEntry, missOf, onMiss, nextEntry}
 use Rattle.ends.specs.Ends.{reportRefusal, isCurrent, confirmed, afterReport}
 use Rattle.ends.specs.World.{World, Event, miss, writeArrives, reportArrives, packet, refused, start, step, run, sent, hitReport}
 use Rattle.ends.specs.World.{unless, tableTakes, keeperMisses, keeperTakes, deliverWrite, deliverReport}
 use Rattle.ends.specs.Promise.{Sound}
 use Rattle.model.proofs.Cases.{cond-elim}
-use Rattle.ends.proofs.Slots.{Found, found, roomIn-lt}
+use Rattle.ends.proofs.Slots.{Found, found, slot-for-entry-lt}
 use Rattle.ends.proofs.Protocol.{behind}
-use Rattle.ends.proofs.Invariant.{Good, GoodWorld, again-good, in-table, mark-good, place-good, report-good, table-good}
+use Rattle.ends.proofs.Invariant.{Good, GoodWorld, again-good, in-table, mark-good, entry-good, report-good, table-good}
 
 -- a message that arrives was given
 pub arrived {ℓ} : {A : Type ℓ} (l : List A) (j : ℕ) (x : A) → getElem? l j ≡ some x → List·Memᴰ x l
@@ -29,15 +29,15 @@ arrived (a ∷ l) (suc j) x e = List·Memᴰ·tail (arrived l j x e)
 
 -- ---- each event keeps it
 
-module _ (n : ℕ) (p : Decisions) (sound : Sound n p) (width slots : ℕ) (some-slot : 1 ≤ slots) where
+module _ (n : ℕ) (p : PolicyView) (sound : Sound n p) (width slots : ℕ) (some-slot : 1 ≤ slots) where
   module _ (a : World) (g : GoodWorld n p width slots a) where
-    miss-good : (key : Key) (b f : Option ℕ) (u : Bool) (room : ℕ) → p .best key ≡ b → firstFor n (a .keeper) key ≡ f → room < slots
-        → GoodWorld n p width slots (keeperMisses a (missOf b f u room (nextEntry p (a .keeper) key)))
-    miss-good key none f u room e q h = g
-    miss-good key (some c) (some i) u room e q h = again-good g i (found n (a .keeper) key i q .live)
-    miss-good key (some c) none true room e q h = g
-    miss-good key (some c) none false room e q h =
-        place-good g room (nextEntry p (a .keeper) key c)
+    miss-good : (key : Key) (b f : Option ℕ) (u : Bool) (slot : ℕ) → p .best key ≡ b → firstFor n (a .keeper) key ≡ f → slot < slots
+        → GoodWorld n p width slots (keeperMisses a (missOf b f u slot (nextEntry p (a .keeper) key)))
+    miss-good key none f u slot e q h = g
+    miss-good key (some c) (some i) u slot e q h = again-good g i (found n (a .keeper) key i q .live)
+    miss-good key (some c) none true slot e q h = g
+    miss-good key (some c) none false slot e q h =
+        entry-good g slot (nextEntry p (a .keeper) key c)
         (record { inside = h; clean = sound .clean key c e; rule = sound .only key c e; action = refl })
         (omega arith)
 
@@ -94,8 +94,8 @@ module _ (n : ℕ) (p : Decisions) (sound : Sound n p) (width slots : ℕ) (some
     pub step-good : (e : Event) → GoodWorld n p width slots (step n p a e)
     unfolding step onMiss afterLookup lookup
     step-good (miss key) =
-        miss-good key (p .best key) (firstFor n (a .keeper) key) _ (roomIn (a .keeper)) refl refl
-        (let r = roomIn-lt (a .keeper) (omega (arith, g .keeperSize)) in omega (arith, g .keeperSize))
+        miss-good key (p .best key) (firstFor n (a .keeper) key) _ (slotForEntry (a .keeper)) refl refl
+        (let r = slot-for-entry-lt (a .keeper) (omega (arith, g .keeperSize)) in omega (arith, g .keeperSize))
     step-good (writeArrives j) =
         delivered (a .writes) (deliverWrite n a) j (getElem? (a .writes) j) refl g
         (λ x given. unless-good (writeRefusal n (a .table) x) (tableTakes a x) (write-good x given))
@@ -118,7 +118,7 @@ start-empty width zero i = (refl, refl)
 start-empty width (suc slots) zero = (refl, refl)
 start-empty width (suc slots) (suc i) = start-empty width slots i
 
-start-good : (n : ℕ) (p : Decisions) (width slots : ℕ) → GoodWorld n p width slots (start width slots)
+start-good : (n : ℕ) (p : PolicyView) (width slots : ℕ) → GoodWorld n p width slots (start width slots)
 unfolding start
 start-good n p width slots = record {
   keeperSize = length-replicate slots (cleared width);
@@ -137,6 +137,6 @@ start-good n p width slots = record {
   };
 }
 
-pub always-good : (n : ℕ) (p : Decisions) → Sound n p → (width slots : ℕ) → 1 ≤ slots → (events : List Event)
+pub always-good : (n : ℕ) (p : PolicyView) → Sound n p → (width slots : ℕ) → 1 ≤ slots → (events : List Event)
     → GoodWorld n p width slots (run n p (start width slots) events)
 always-good n p sound width slots one events = run-good n p sound width slots one events (start width slots) (start-good n p width slots)

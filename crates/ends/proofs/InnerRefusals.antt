@@ -12,13 +12,13 @@ use lib.Seq.{getD-set-same}
 use borrow.Author.Tests.{lt-leb, ne-eqb, ltb-false}
 use Rattle.model.specs.Pattern.{canonical}
 use Rattle.ends.specs.Records.{Entry, Slot, Write, Report, entryIn, writeFor, written, cleared, slotAt, entryAt}
-use Rattle.ends.specs.Ends.{Key, Decisions, firstFor, Miss, noRule, again, place, usedUp, roomIn, missOf, nextEntry, onMiss, missKeeper}
+use Rattle.ends.specs.Ends.{Key, PolicyView, firstFor, Miss, noRule, again, newEntry, usedUp, slotForEntry, missOf, nextEntry, onMiss, missKeeper}
 use Rattle.ends.specs.Ends.{writeRefusal, isNewer, afterWrite, writeReport, reportRefusal}
 use Rattle.model.specs.Refusals.{badRecord, reportAhead}
 use Rattle.ends.specs.Promise.{Sound}
 use Rattle.ends.specs.TraceLink.{NoneBut, InnerRefusalLaw}
 use Rattle.model.proofs.Cases.{by-cases, cond-elim}
-use Rattle.ends.proofs.Slots.{found, roomIn-lt}
+use Rattle.ends.proofs.Slots.{found, slot-for-entry-lt}
 use Rattle.ends.proofs.Refusals.{write-taken}
 
 -- a report of a slot that is there and not empty
@@ -29,33 +29,33 @@ report-but k r inside live =
     (by-cases (ltb (slotAt k (r .slot) .sequence) (r .sequence)) (λ e. rw e (inr refl)) (λ e. rw e (inl refl)))
 
 -- a miss that gives a write again found its slot
-again-found : (b f : Option ℕ) (u : Bool) (room : ℕ) (next : ℕ → Entry) (i : ℕ) → missOf b f u room next ≡ again i → f ≡ some i
-again-found none f u room next i q = cc
-again-found (some r) (some j) u room next i q = cc
-again-found (some r) none true room next i q = cc
-again-found (some r) none false room next i q = cc
+again-found : (b f : Option ℕ) (u : Bool) (slot : ℕ) (next : ℕ → Entry) (i : ℕ) → missOf b f u slot next ≡ again i → f ≡ some i
+again-found none f u slot next i q = cc
+again-found (some r) (some j) u slot next i q = cc
+again-found (some r) none true slot next i q = cc
+again-found (some r) none false slot next i q = cc
 
 same-length : (k : List Slot) (m : Miss) → length (missKeeper k m) ≡ length k
 same-length k noRule = refl
 same-length k (again i) = refl
-same-length k (place i e) = length-set k i (written e)
+same-length k (newEntry i e) = length-set k i (written e)
 same-length k (usedUp r) = refl
 
-module _ (n : ℕ) (p : Decisions) (sound : Sound n p) (k t : List Slot) (equal : length k ≡ length t) (one : 1 ≤ length t) (key : Key) where
+module _ (n : ℕ) (p : PolicyView) (sound : Sound n p) (k t : List Slot) (equal : length k ≡ length t) (one : 1 ≤ length t) (key : Key) where
   new-taken : (b f : Option ℕ) (u : Bool) → p .best key ≡ b
-      → (i : ℕ) (x : Entry) → missOf b f u (roomIn k) (nextEntry p k key) ≡ place i x → writeRefusal n t (writeFor i x) ≡ none
+      → (i : ℕ) (x : Entry) → missOf b f u (slotForEntry k) (nextEntry p k key) ≡ newEntry i x → writeRefusal n t (writeFor i x) ≡ none
   unfolding writeRefusal
   new-taken none f u e i x q = cc
   new-taken (some r) (some j) u e i x q = cc
   new-taken (some r) none true e i x q = cc
   new-taken (some r) none false e i x q =
-      let room : i ≡ roomIn k = cc in
+      let slot : i ≡ slotForEntry k = cc in
       let entry : x ≡ nextEntry p k key r = cc in
       rw (
-        room,
+        slot,
         entry,
         sound .clean key r e,
-        lt-leb (length t) (roomIn k) (omega (arith, roomIn-lt k (omega arith))),
+        lt-leb (length t) (slotForEntry k) (omega (arith, slot-for-entry-lt k (omega arith))),
         ne-eqb (nextEntry p k key r .sequence) 0 (omega arith),
       )
 

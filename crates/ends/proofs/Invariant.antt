@@ -10,7 +10,7 @@ use lib.ListN.{length, set, replicate, length-set}
 use lib.Seq.{getD-set-same}
 use Rattle.ends.specs.Records.{Entry, Slot, Write, Report, entryOf, entryIn, writeFor, written, cleared, slotAt, entryAt}
 use Rattle.model.specs.Pattern.{matches, canonical}
-use Rattle.ends.specs.Ends.{Key, Decisions, largest}
+use Rattle.ends.specs.Ends.{Key, PolicyView, largest}
 use Rattle.ends.specs.World.{World}
 use Rattle.ends.proofs.Slots.{set-all, set-grows, largest-ge}
 use Rattle.ends.proofs.Protocol.{Held, held-more, Inv, New, keeper-given, keeper-moves, table-moves, table-reports}
@@ -19,7 +19,7 @@ use Rattle.ends.proofs.Protocol.{Held, held-more, Inv, New, keeper-give
 
 -- the entry may stand in slot i: its value is 0 at every wildcard, each key that it matches has its rule as the best, and the action is
 -- that rule's
-pub record Right (n : ℕ) (p : Decisions) (slots : ℕ) (i : ℕ) (e : Entry) : Type 0 where
+pub record Right (n : ℕ) (p : PolicyView) (slots : ℕ) (i : ℕ) (e : Entry) : Type 0 where
   pub inside : i < slots
   pub clean : canonical n (e .value) (e .mask) ≡ true
   pub rule : (key : Key) → matches n (e .value) (e .mask) key ≡ true → p .best key ≡ some (e .rule)
@@ -41,16 +41,16 @@ Reported rs i s = (h : ℕ) × List·Memᴰ (record { slot = i; sequence = s; hi
 abbrev pub Settled : List Slot → ℕ → Type 0
 Settled k i = slotAt k i .settled ≡ 1
 
-pub record Good (n : ℕ) (p : Decisions) (width slots : ℕ) (k t : List Slot) (ws : List Write) (rs : List Report) : Type 0 where
+pub record Good (n : ℕ) (p : PolicyView) (width slots : ℕ) (k t : List Slot) (ws : List Write) (rs : List Report) : Type 0 where
   pub keeperSize : length k ≡ slots
   pub tableSize : length t ≡ slots
   pub reportsLive : (x : Report) → List·Memᴰ x rs → (x .slot < slots) × (0 < x .sequence)
   pub inv : Inv stamp (base width slots) (Right n p slots) (entryAt k) (entryAt t) (Settled k) (Given ws) (Reported rs)
 
-abbrev pub GoodWorld : ℕ → Decisions → ℕ → ℕ → World → Type 0
+abbrev pub GoodWorld : ℕ → PolicyView → ℕ → ℕ → World → Type 0
 GoodWorld n p width slots a = Good n p width slots (a .keeper) (a .table) (a .writes) (a .reports)
 
-module _ {n : ℕ} {p : Decisions} {width slots : ℕ} {k t : List Slot} {ws : List Write} {rs : List Report} (g : Good n p width slots k t ws rs) where
+module _ {n : ℕ} {p : PolicyView} {width slots : ℕ} {k t : List Slot} {ws : List Write} {rs : List Report} (g : Good n p width slots k t ws rs) where
   pub in-keeper : {i : ℕ} → i < slots → i < length k
   in-keeper h = omega (arith, g .keeperSize)
 
@@ -77,9 +77,9 @@ module _ {n : ℕ} {p : Decisions} {width slots : ℕ} {k t : List Slot} {ws : L
       was j e (inr m) = m
 
   -- the keeper puts a right entry under a fresh sequence into slot i, and gives its write
-  pub place-good : (i : ℕ) (e : Entry) → Right n p slots i e → largest k < e .sequence
+  pub entry-good : (i : ℕ) (e : Entry) → Right n p slots i e → largest k < e .sequence
       → Good n p width slots (set k i (written e)) t (writeFor i e ∷ ws) rs
-  place-good i e right fresh = record {
+  entry-good i e right fresh = record {
     keeperSize = length-set k i (written e) ∙ g .keeperSize;
     tableSize = g .tableSize;
     reportsLive = g .reportsLive;

@@ -11,7 +11,7 @@ use lib.ListN.{length}
 use borrow.Author.Tests.{lt-ltb, ne-eqb, lt-leb, le-ltb}
 use Rattle.ends.specs.Records.{Slot, Write, Report, entryIn, slotAt, entryAt}
 use Rattle.model.specs.Below.{elem}
-use Rattle.ends.specs.Ends.{Key, Decisions, Hit, firstFor, hitAt, lookup, writeRefusal, roomIn, missOf, onMiss, nextEntry, missTold}
+use Rattle.ends.specs.Ends.{Key, PolicyView, Hit, firstFor, hitAt, lookup, writeRefusal, slotForEntry, missOf, onMiss, nextEntry, missTold}
 use Rattle.ends.specs.Ends.{reportRefusal, isOpen, openList}
 use Rattle.ends.specs.World.{World}
 use Rattle.ends.specs.Promise.{Kept}
@@ -21,7 +21,7 @@ use Rattle.ends.proofs.Slots.{found, live-inside}
 use Rattle.ends.proofs.Protocol.{behind, same, keeper-right, table-right}
 use Rattle.ends.proofs.Invariant.{Good, GoodWorld, in-keeper, in-table}
 
-module _ {n : ℕ} {p : Decisions} {width slots : ℕ} {k t : List Slot} {ws : List Write} {rs : List Report} (g : Good n p width slots k t ws rs) where
+module _ {n : ℕ} {p : PolicyView} {width slots : ℕ} {k t : List Slot} {ws : List Write} {rs : List Report} (g : Good n p width slots k t ws rs) where
   open-or-same : (i : ℕ) → (elem i (openList k) ≡ true) ⊎ (entryAt k i ≡ entryAt t i)
   unfolding openList
   open-or-same i = go (ℕ-discrete (slotAt k i .sequence) (slotAt t i .sequence))
@@ -60,18 +60,18 @@ module _ {n : ℕ} {p : Decisions} {width slots : ℕ} {k t : List Slot} {ws : L
             (omega (arith, g .inv .reported-old (x .slot) (x .sequence) (x .hits, m), behind (g .inv) (x .slot))),
       )
 
-  told-right : (key : Key) (b f : Option ℕ) (u : Bool) (room : ℕ) → p .best key ≡ b → firstFor n k key ≡ f
-      → missTold p k (missOf b f u room (nextEntry p k key)) ≡ Option·map (λ m. record { rule = m; action = p .actionOf m }) b
-  told-right key none f u room e q = refl
-  told-right key (some c) (some i) u room e q =
+  told-right : (key : Key) (b f : Option ℕ) (u : Bool) (slot : ℕ) → p .best key ≡ b → firstFor n k key ≡ f
+      → missTold p k (missOf b f u slot (nextEntry p k key)) ≡ Option·map (λ m. record { rule = m; action = p .actionOf m }) b
+  told-right key none f u slot e q = refl
+  told-right key (some c) (some i) u slot e q =
       let s = found n k key i q in
       let r = keeper-right (g .inv) i (s .live) in
       let b : p .best key ≡ some (slotAt k i .rule) = r .rule key (s .fits) in
       let a : slotAt k i .action ≡ p .actionOf (slotAt k i .rule) = r .action in
       let d : slotAt k i .rule ≡ c = cc in
       rw (a, d)
-  told-right key (some c) none true room e q = refl
-  told-right key (some c) none false room e q = refl
+  told-right key (some c) none true slot e q = refl
+  told-right key (some c) none false slot e q = refl
 
   -- a hit names the best rule and its action
   hit-right : (key : Key) (h : Hit) → lookup n t key ≡ some h → (p .best key ≡ some (h .rule)) × (h .action ≡ p .actionOf (h .rule))
@@ -91,12 +91,12 @@ shut : (i : ℕ) → elem i [] ≡ true → ⊥
 unfolding elem
 shut i m = clash m refl
 
-pub good-kept : (n : ℕ) (p : Decisions) (width slots : ℕ) (a : World) → GoodWorld n p width slots a → Kept n p a
+pub good-kept : (n : ℕ) (p : PolicyView) (width slots : ℕ) (a : World) → GoodWorld n p width slots a → Kept n p a
 unfolding onMiss
 good-kept n p width slots a g = record {
   rule = λ key h e. hit-right g key h e .0;
   action = λ key h e. hit-right g key h e .1;
-  told = λ key. told-right g key (p .best key) (firstFor n (a .keeper) key) _ (roomIn (a .keeper)) refl refl;
+  told = λ key. told-right g key (p .best key) (firstFor n (a .keeper) key) _ (slotForEntry (a .keeper)) refl refl;
   differs = λ i d. other (⊎-swap (open-or-same g i)) d;
   same = λ e i. other (open-or-same g i) (λ m. shut i (rw e at m));
   writesTaken = writes-taken g;

@@ -6,7 +6,7 @@ use Rattle.model.specs.Pattern.{exactAt, sameAt, matches, parts, overlap, canon
 use Rattle.model.specs.Policy.{ruleAt, before, ruleMatches, rulesOverlap, best, dependents}
 use Rattle.model.specs.Isolate.{separates, chosen, rounds, fixedBy, isolatedAt, isolate}
 use Rattle.model.specs.Small.{row, smallPolicy}
-use Rattle.ends.specs.Ends.{holds, firstFor, writeRefusal, afterWrite, writeReport, largest, givenUp, roomIn, onMiss}
+use Rattle.ends.specs.Ends.{holds, firstFor, writeRefusal, afterWrite, writeReport, largest, givenUp, slotForEntry, onMiss}
 use Rattle.ends.specs.Ends.{reportRefusal, afterReport, openList}
 use Rattle.ends.specs.World.{start, step, run}
 use Rattle.ends.specs.Trace.{onePacket, oneOutcome, outcomes}
@@ -17,7 +17,7 @@ use Rattle.ends.specs.SmallRuns.{sequences, Reversed, InOrder, keeperAt,
 pub small-runs : SixPackets × Reversed × InOrder × LastSequence
 unfolding allBelow countBelow mostBelow ahead foremost insert listed keep digit bitAt putDigit putBit withBits exactAt sameAt matches
     parts overlap canonical wildcards ruleAt before ruleMatches rulesOverlap best dependents separates chosen rounds fixedBy isolatedAt
-    isolate row smallPolicy holds firstFor writeRefusal afterWrite writeReport largest givenUp roomIn onMiss reportRefusal afterReport
+    isolate row smallPolicy holds firstFor writeRefusal afterWrite writeReport largest givenUp slotForEntry onMiss reportRefusal afterReport
     openList start step run onePacket oneOutcome outcomes countOf totalsAfter sixKeys line sixOutcomes after twoMisses reversed inOrder
     thenReport sequences keeperAt
 small-runs = (

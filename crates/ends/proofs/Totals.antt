@@ -12,7 +12,7 @@ use lib.ListN.{length, length-append}
 use borrow.Author.Tests.{eqb-true}
 use Rattle.model.specs.Below.{allBelow}
 use Rattle.ends.specs.Records.{Slot, Outcome, Totals, slotAt}
-use Rattle.ends.specs.Ends.{Key, Decisions, Miss, noRule, again, place, usedUp, isEmpty, firstFor, onMiss}
+use Rattle.ends.specs.Ends.{Key, PolicyView, Miss, noRule, again, newEntry, usedUp, isEmpty, firstFor, onMiss}
 use Rattle.ends.specs.Trace.{Ends, onePacket, trace, missOutcome, packetOutcome, oneOutcome, outcomes}
 use Rattle.ends.specs.Totals.{isHit, isMiss, isNoRule, isEviction, countOf, totalsAfter, clearedTotals, totalsOver, TotalsLaw}
 use Rattle.ends.specs.Totals.{CutLaw, Balanced, BalanceLaw, Run, outcomesOf, AllBalanced}
@@ -21,7 +21,7 @@ use Rattle.model.proofs.BelowLaws.{all-at}
 
 -- ---- cut in two
 
-module _ (n : ℕ) (p : Decisions) where
+module _ (n : ℕ) (p : PolicyView) where
   trace-append : (xs ys : List Key) (e : Ends) → trace n p e (xs ++ ys) ≡ trace n p (trace n p e xs) ys
   unfolding trace
   trace-append [] ys e = refl
@@ -32,7 +32,7 @@ module _ (n : ℕ) (p : Decisions) where
   outcomes-append [] ys e = refl
   outcomes-append (x ∷ xs) ys e = ap (λ os. oneOutcome n p e x ∷ os) (outcomes-append xs ys (onePacket n p e x))
 
-pub length-outcomes : (n : ℕ) (p : Decisions) (keys : List Key) (e : Ends) → length (outcomes n p e keys) ≡ length keys
+pub length-outcomes : (n : ℕ) (p : PolicyView) (keys : List Key) (e : Ends) → length (outcomes n p e keys) ≡ length keys
 unfolding outcomes
 length-outcomes n p [] e = refl
 length-outcomes n p (key ∷ keys) e = ap suc (length-outcomes n p keys (onePacket n p e key))
@@ -75,14 +75,14 @@ cut-law n p e t xs ys =
 -- ---- the totals add up
 
 -- an outcome of a run is one of 0 to 5
-known : (n : ℕ) (p : Decisions) (k t : List Slot) (key : Key) (f : Option ℕ) → packetOutcome n p k t key f .outcome ≤ 5
+known : (n : ℕ) (p : PolicyView) (k t : List Slot) (key : Key) (f : Option ℕ) → packetOutcome n p k t key f .outcome ≤ 5
 known n p k t key (some i) = omega arith
 known n p k t key none = miss-known (onMiss n p k key)
   where
     miss-known : (m : Miss) → missOutcome p k m .outcome ≤ 5
     miss-known noRule = omega arith
     miss-known (again i) = omega arith
-    miss-known (place i e) = cond-elim (λ (o : Outcome). o .outcome ≤ 5) (isEmpty (slotAt k i)) (λ _. omega arith) (λ _. omega arith)
+    miss-known (newEntry i e) = cond-elim (λ (o : Outcome). o .outcome ≤ 5) (isEmpty (slotAt k i)) (λ _. omega arith) (λ _. omega arith)
     miss-known (usedUp r) = omega arith
 
 -- so it is a hit, a miss, or no rule
@@ -94,7 +94,7 @@ count-cons : (f : ℕ → Bool) (o : Outcome) (os : List Outcome) → countOf f 
 unfolding countOf
 count-cons f o os = by-cases (f (o .outcome)) (λ e. rw e (omega arith)) (λ e. rw e (omega arith))
 
-all-kinds : (n : ℕ) (p : Decisions) (keys : List Key) (e : Ends) → length (outcomes n p e keys)
+all-kinds : (n : ℕ) (p : PolicyView) (keys : List Key) (e : Ends) → length (outcomes n p e keys)
     ≡ countOf isHit (outcomes n p e keys) + countOf isMiss (outcomes n p e keys) + countOf isNoRule (outcomes n p e keys)
 unfolding outcomes
 all-kinds n p [] e = unfold countOf in refl
@@ -113,7 +113,7 @@ balanced-over : (t : Totals) → Balanced t → (runs : List Run) → Balanced (
 unfolding totalsOver
 balanced-over t h [] = h
 balanced-over t h (r ∷ runs) =
-    balanced-over (totalsAfter t (outcomesOf r)) (balance-law (r .positions) (r .decisions) (r .ends) (r .keys) t h) runs
+    balanced-over (totalsAfter t (outcomesOf r)) (balance-law (r .positions) (r .view) (r .ends) (r .keys) t h) runs
 
 pub all-balanced : AllBalanced
 all-balanced runs = balanced-over clearedTotals refl runs

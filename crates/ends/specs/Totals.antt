@@ -6,7 +6,7 @@ use Prim.Native.Nat.{ℕ, suc, _+_}
 use lib.Dec.{eqb, leb}
 use lib.ListN.{length}
 use Rattle.ends.specs.Records.{Outcome, Totals}
-use Rattle.ends.specs.Ends.{Key, Decisions}
+use Rattle.ends.specs.Ends.{Key, PolicyView}
 use Rattle.ends.specs.Trace.{Ends, trace, outcomes}
 
 -- hits (1), misses (2 to 5), no rule (0), evictions (3)
@@ -65,29 +65,29 @@ abbrev pub Balanced : Totals → Type 0
 Balanced t = t .packets ≡ t .hits + t .misses + t .noRule
 
 abbrev pub BalanceLaw : Type 0
-BalanceLaw = (n : ℕ) (p : Decisions) (e : Ends) (keys : List Key) (t : Totals)
+BalanceLaw = (n : ℕ) (p : PolicyView) (e : Ends) (keys : List Key) (t : Totals)
     → Balanced t → Balanced (totalsAfter t (outcomes n p e keys))
 
 -- a run: whatever the policy, the ends and the keys
 pub record Run : Type 0 where
   pub positions : ℕ
-  pub decisions : Decisions
+  pub view : PolicyView
   pub ends : Ends
   pub keys : List Key
 
 abbrev pub outcomesOf : Run → List Outcome
-outcomesOf r = outcomes (r .positions) (r .decisions) (r .ends) (r .keys)
+outcomesOf r = outcomes (r .positions) (r .view) (r .ends) (r .keys)
 
 -- so from cleared totals, over all runs
 abbrev pub AllBalanced : Type 0
 AllBalanced = (runs : List Run) → Balanced (totalsOver clearedTotals (map outcomesOf runs))
 
 -- a trace cut in two and run in two calls gives the same ends, outcomes and totals
-pub record Cut (n : ℕ) (p : Decisions) (e : Ends) (t : Totals) (xs ys : List Key) : Type 0 where
+pub record Cut (n : ℕ) (p : PolicyView) (e : Ends) (t : Totals) (xs ys : List Key) : Type 0 where
   pub ends : trace n p e (xs ++ ys) ≡ trace n p (trace n p e xs) ys
   pub answers : outcomes n p e (xs ++ ys) ≡ outcomes n p e xs ++ outcomes n p (trace n p e xs) ys
   pub sums : totalsAfter t (outcomes n p e (xs ++ ys))
       ≡ totalsAfter (totalsAfter t (outcomes n p e xs)) (outcomes n p (trace n p e xs) ys)
 
 abbrev pub CutLaw : Type 0
-CutLaw = (n : ℕ) (p : Decisions) (e : Ends) (t : Totals) (xs ys : List Key) → Cut n p e t xs ys
+CutLaw = (n : ℕ) (p : PolicyView) (e : Ends) (t : Totals) (xs ys : List Key) → Cut n p e t xs ys

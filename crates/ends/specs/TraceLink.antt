@@ -7,7 +7,7 @@ use Prim.Native.Nat.{ℕ, _*_, _≤_}
 use lib.ListN.{length}
 use Rattle.model.specs.Policy.{Rule, Accepted}
 use Rattle.ends.specs.Records.{Entry, Write, writeFor, reportFor, slotAt, entryAt}
-use Rattle.ends.specs.Ends.{Key, Decisions, byPolicy, firstFor, counted, again, place, onMiss, missKeeper, missWrite}
+use Rattle.ends.specs.Ends.{Key, PolicyView, byPolicy, firstFor, counted, again, newEntry, onMiss, missKeeper, missWrite}
 use Rattle.ends.specs.Ends.{writeRefusal, writeReport, reportRefusal}
 use Rattle.model.specs.Refusals.{badRecord, reportAhead}
 use Rattle.ends.specs.World.{World, Event, start, run}
@@ -20,7 +20,7 @@ endsOf a = record { keeper = a .keeper; table = a .table }
 
 -- so ends that grew from cleared ones have grown so after the run too: its events follow those that went before
 abbrev pub GrownByRun : Type 0
-GrownByRun = (n : ℕ) (p : Decisions) (w slots : ℕ) (events : List Event) (e : Ends) (keys : List Key)
+GrownByRun = (n : ℕ) (p : PolicyView) (w slots : ℕ) (events : List Event) (e : Ends) (keys : List Key)
     → e ≡ endsOf (run n p (start w slots) events)
     → (more : List Event) × (trace n p e keys ≡ endsOf (run n p (start w slots) (events ++ more)))
 
@@ -32,7 +32,7 @@ KeptByRun = (w most : ℕ) (pol : List Rule) → Accepted w most pol → (slots 
     (trace (w * 8) (byPolicy (w * 8) pol) e keys ≡ endsOf a) × Kept (w * 8) (byPolicy (w * 8) pol) a)
 
 -- from such ends neither end refuses within the run: at no packet the report of a hit, nor a miss's write, nor that write's report
-pub record NoInnerRefusal (n : ℕ) (p : Decisions) (e : Ends) (key : Key) : Type 0 where
+pub record NoInnerRefusal (n : ℕ) (p : PolicyView) (e : Ends) (key : Key) : Type 0 where
   pub hit : (i : ℕ) → firstFor n (e .table) key ≡ some i → reportRefusal (e .keeper) (reportFor i (counted (slotAt (e .table) i))) ≡ none
   pub write : (x : Write) → missWrite (e .keeper) (onMiss n p (e .keeper) key) ≡ some x → writeRefusal n (e .table) x ≡ none
   pub answer : (x : Write) → missWrite (e .keeper) (onMiss n p (e .keeper) key) ≡ some x
@@ -51,8 +51,8 @@ NoneBut r o = (o ≡ none) ⊎ (o ≡ some r)
 
 -- a new write is taken; a write given again is refused at most for a value bit under a wildcard (3), and a report at most for a sequence
 -- larger than the keeper's (11)
-pub record InnerRefusals (n : ℕ) (p : Decisions) (e : Ends) (key : Key) : Type 0 where
-  pub new : (i : ℕ) (x : Entry) → onMiss n p (e .keeper) key ≡ place i x → writeRefusal n (e .table) (writeFor i x) ≡ none
+pub record InnerRefusals (n : ℕ) (p : PolicyView) (e : Ends) (key : Key) : Type 0 where
+  pub new : (i : ℕ) (x : Entry) → onMiss n p (e .keeper) key ≡ newEntry i x → writeRefusal n (e .table) (writeFor i x) ≡ none
   pub resent : (i : ℕ) → onMiss n p (e .keeper) key ≡ again i → NoneBut badRecord (writeRefusal n (e .table) (writeFor i (entryAt (e .keeper) i)))
   pub hit : (i : ℕ) → firstFor n (e .table) key ≡ some i
       → NoneBut reportAhead (reportRefusal (e .keeper) (reportFor i (counted (slotAt (e .table) i))))
@@ -60,5 +60,5 @@ pub record InnerRefusals (n : ℕ) (p : Decisions) (e : Ends) (key : Key) : Type
       → NoneBut reportAhead (reportRefusal (missKeeper (e .keeper) (onMiss n p (e .keeper) key)) (writeReport (e .table) x))
 
 abbrev pub InnerRefusalLaw : Type 0
-InnerRefusalLaw = (n : ℕ) (p : Decisions) → Sound n p → (e : Ends) → length (e .keeper) ≡ length (e .table) → 1 ≤ length (e .table)
+InnerRefusalLaw = (n : ℕ) (p : PolicyView) → Sound n p → (e : Ends) → length (e .keeper) ≡ length (e .table) → 1 ≤ length (e .table)
     → (key : Key) → InnerRefusals n p e key

@@ -11,7 +11,7 @@ use Rattle.model.specs.Policy.{ruleAt, before, ruleMatches, rulesOverlap, best,
 use Rattle.model.specs.Isolate.{separates, chosen, rounds, fixedBy, isolatedAt, isolate}
 use Rattle.model.specs.Small.{row}
 use Rattle.ternary.specs.Sizes.{keySize}
-use Rattle.buffers.specs.Numbers.{be}
+use Rattle.buffers.specs.BigEndian.{be}
 use Rattle.buffers.specs.Parts.{splice, recordsIn, spelled}
 use Rattle.records.specs.Rules.{decodeRule, rules}
 use Rattle.checks.specs.Flaws.{ruleFlaw}

@@ -10,12 +10,12 @@ use Rattle.records.specs.Layout.{mostRules}
 use Rattle.records.specs.Rules.{rules}
 use Rattle.checks.specs.declared.refusal.Refusal.{Refusal}
 use Rattle.policy.proofs.Acceptance.{accepted-bytes}
-use Rattle.isolate.specs.Answers.{isolateRefusal, answerOf, isolateAnswer}
+use Rattle.isolate.specs.Answers.{isolateRefusal, isolateAnswerOf, isolateAnswer}
 use Rattle.isolate.specs.Promise.{AnswerLaw}
 use Rattle.isolate.specs.declared.Said.the-variants.{Isolated}
 use Rattle.isolate.proofs.AnswerLaws.{ready, policy-fine}
 
-pub isolated-of : (o : Option Refusal) (x : IsolatedRule) → (answerOf o x) .said ≡ Isolated → o ≡ none
+pub isolated-of : (o : Option Refusal) (x : IsolatedRule) → (isolateAnswerOf o x) .said ≡ Isolated → o ≡ none
 isolated-of (some r) x e = let z : _≡_ {A = ℕ} 0 1 = cc in absurd (omega arith)
 isolated-of none x e = refl
 

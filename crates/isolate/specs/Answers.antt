@@ -45,9 +45,9 @@ refusedAnswer r =
 abbrev pub isolatedAnswer : IsolatedRule → IsolateAnswer
 isolatedAnswer x = record { said = Isolated; value = x .value; mask = x .mask; fixed = x .fixedBits; wildcards = x .wildcardsLeft }
 
-abbrev pub answerOf : Option Refusal → IsolatedRule → IsolateAnswer
-answerOf (some r) x = refusedAnswer r
-answerOf none x = isolatedAnswer x
+abbrev pub isolateAnswerOf : Option Refusal → IsolatedRule → IsolateAnswer
+isolateAnswerOf (some r) x = refusedAnswer r
+isolateAnswerOf none x = isolatedAnswer x
 
 unfoldable pub isolateAnswer : List ℕ → List ℕ → ℕ → IsolateAnswer
-isolateAnswer policy key number = answerOf (isolateRefusal policy key number) (isolate positions (rules keySize policy) key number)
+isolateAnswer policy key number = isolateAnswerOf (isolateRefusal policy key number) (isolate positions (rules keySize policy) key number)

@@ -26,7 +26,7 @@ use Rattle.checks.proofs.FitLaws.{slots-accepted}
 use Rattle.checks.proofs.CleanLaws.{report-clean}
 use Rattle.end_records.specs.Reports.{decodeReport}
 use Rattle.checks.proofs.RefusalLaws.{none-first, need-none}
-use Rattle.slots.specs.Settling.{ReportTaken}
+use Rattle.slots.specs.Settle.{ReportTaken}
 use Rattle.keeper.specs.Reports.{numbered, bytesRefusal, reportRefused, answerOf, reportAnswer, Reported}
 use Rattle.keeper.specs.declared.ReportAnswer.{ReportAnswer}
 use Rattle.keeper.specs.declared.ReportAnswer.the-variants.{Refused, Taken}

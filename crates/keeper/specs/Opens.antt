@@ -19,9 +19,9 @@ use Rattle.lists.specs.declared.ListAnswer.{ListAnswer}
 abbrev pub openIn : List ℕ → List ℕ
 openIn keeper = openList (slots keySize keeper)
 
--- keeper 4; 5, where the output has so much room
+-- keeper 4; 5, where the output has outLen bytes
 unfoldable pub openRefusal : List ℕ → ℕ → Option Refusal
-openRefusal keeper room = orElse (slotsRefusal keeper) (listRefusal (openIn keeper) room)
+openRefusal keeper outLen = orElse (slotsRefusal keeper) (listRefusal (openIn keeper) outLen)
 
 -- the answer, and the output after it: the numbers of the open slots at its start, every other byte as it was
 pub record Opened (keeper out : List ℕ) (r : ListAnswer) (out′ : List ℕ) : Type 0 where

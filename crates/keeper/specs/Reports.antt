@@ -16,7 +16,7 @@ use Rattle.checks.specs.Flaws.{isFlawed, reportFlaw}
 use Rattle.end_records.specs.Slots.{slots}
 use Rattle.checks.specs.BufferRefusals.{slotsRefusal}
 use Rattle.end_records.specs.Reports.{decodeReport}
-use Rattle.slots.specs.Settling.{reportBytes}
+use Rattle.slots.specs.Settle.{reportBytes}
 use Rattle.keeper.specs.declared.ReportAnswer.{ReportAnswer}
 use Rattle.keeper.specs.declared.ReportAnswer.the-variants.{Refused, Taken}
 

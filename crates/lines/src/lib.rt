@@ -5,7 +5,7 @@ pub mod slots_text;
 use checks::refusal::Refusal;
 use text::Line;
 use text::with_number;
-use text::with_place;
+use text::with_number_or_dash;
 use text::with_text;
 ghost use mathlib.Core.Path.{_≡_};
 ghost use lib.ListN.{length};
@@ -43,9 +43,9 @@ pub fn outcome_line(c: &[u8]) -> Line
     ensures { λ r. ⌜ Says (outcomeLine (decodeOutcome (now (c .entry)))) r ⌝ }
 {
     let x = records::outcome::outcome_of(c);
-    let evicted = with_place(text::empty(), x.evicted, NEWLINE);
-    let slot = with_place(evicted, x.slot, SPACE);
-    let rule = with_place(slot, x.rule, SPACE);
+    let evicted = with_number_or_dash(text::empty(), x.evicted, NEWLINE);
+    let slot = with_number_or_dash(evicted, x.slot, SPACE);
+    let rule = with_number_or_dash(slot, x.rule, SPACE);
     let action = with_number(rule, wide16(x.action), SPACE);
     with_number(action, wide8(x.outcome), SPACE)
 }

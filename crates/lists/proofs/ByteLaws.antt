@@ -6,11 +6,11 @@ use native.Mathlib.Omega.{arith}
 use native.Mathlib.Numerals.{add-one}
 use lib.ListN.{length, take, getD}
 use lib.Seq.{take-suc, length-take-le}
-use Rattle.buffers.specs.Numbers.{be, toBe}
+use Rattle.buffers.specs.BigEndian.{be, toBe}
 use Rattle.buffers.specs.Parts.{part, splice, spelled}
 use Rattle.buffers.proofs.PartLaws.{length-splice, splice-next}
 use Rattle.buffers.proofs.RowLaws.{spelled-more, length-spelled}
-use Rattle.buffers.proofs.NumberLaws.{toBe-length, be-toBe}
+use Rattle.buffers.proofs.BigEndianLaws.{toBe-length, be-toBe}
 use Rattle.lists.specs.Written.{numberBytes}
 
 -- the j-th number, read

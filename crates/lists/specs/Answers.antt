@@ -14,9 +14,9 @@ use Rattle.lists.specs.Written.{numberBytes}
 use Rattle.lists.specs.declared.ListAnswer.{ListAnswer}
 use Rattle.lists.specs.declared.ListAnswer.the-variants.{Refused, Count}
 
--- 5, where the output has so much room
+-- 5, where the output has outLen bytes
 abbrev pub listRefusal : List ℕ → ℕ → Option Refusal
-listRefusal xs room = need (not (ltb room (2 * length xs))) shortOutput none
+listRefusal xs outLen = need (not (ltb outLen (2 * length xs))) shortOutput none
 
 -- the refusal, or how many numbers were written
 abbrev pub answerOf : Option Refusal → ℕ → ListAnswer

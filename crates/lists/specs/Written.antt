@@ -1,7 +1,7 @@
 -- The bytes of a list of numbers. Assumes nothing.
 use mathlib.Core.List.{List}
 use Prim.Native.Nat.{ℕ}
-use Rattle.buffers.specs.Numbers.{toBe}
+use Rattle.buffers.specs.BigEndian.{toBe}
 use Rattle.buffers.specs.Parts.{spelled}
 
 -- the numbers of a list, two bytes each

@@ -6,7 +6,7 @@ use mathlib.Core.Option.{Option, none, some}
 use Prim.Native.Nat.{ℕ}
 use lib.ListN.{length, set}
 use Rattle.ends.specs.Records.{Slot, Write, Outcome, written, entryIn, writeFor, entryAt}
-use Rattle.ends.specs.Ends.{Miss, noRule, again, place, usedUp, missWrite}
+use Rattle.ends.specs.Ends.{Miss, noRule, again, newEntry, usedUp, missWrite}
 use Rattle.ternary.specs.Sizes.{keySize}
 use Rattle.buffers.specs.Parts.{splice}
 use Rattle.checks.specs.Refusals.{unlessRefused, partsOf}
@@ -17,33 +17,33 @@ use Rattle.checks.proofs.RefusalLaws.{parts-refused, parts-none}
 use Rattle.end_records.specs.Slots.{slots, putSlot}
 use Rattle.end_records.specs.Writes.{encodeWrite}
 use Rattle.end_records.specs.MessageStructs.{asWrite}
-use Rattle.records.specs.Outcomes.{asOutcome, givesWrite, placesEntry}
+use Rattle.records.specs.Outcomes.{asOutcome, givesWrite, givesNewEntry}
 use Rattle.records.proofs.OutcomeLaws.{quiet-places}
 use Rattle.policy.proofs.CheckLaws.{passed-few}
-use Rattle.policy.specs.Parts.{partsRefusal}
-use Rattle.policy.proofs.PartLaws.{parts-fine}
-use Rattle.miss.specs.Decided.{deciding, DecidedAs}
-use Rattle.miss.specs.Decisions.{Fine}
-use Rattle.miss.specs.Carrying.{answerOf, CarriedOut}
+use Rattle.policy.specs.Lent.{lentRefusal}
+use Rattle.policy.proofs.LentLaws.{parts-fine}
+use Rattle.miss.specs.Decision.{policyView, DecidedAs}
+use Rattle.miss.specs.Decide.{Fine}
+use Rattle.miss.specs.Carry.{missAnswerOf, CarriedOut}
 use Rattle.miss.specs.declared.carry.MissAnswer.{MissAnswer}
 use Rattle.miss.specs.declared.carry.MissAnswer.the-variants.{Refused}
 use Rattle.miss.proofs.OutcomeLaws.{none-quiet, full-quiet, again-given, entry-given}
-use Rattle.miss.specs.Answers.{roomRefusal, missRefused, outWith, MissedAs, OnMiss, Missed}
+use Rattle.miss.specs.Answers.{shortForWrite, missRefused, outWith, MissedAs, OnMiss, Missed}
 use Rattle.miss.specs.declared.decision.Decision.{Decision}
 
 -- ---- the parts that are lent
 
 module _ (policy key keeper : List ℕ) where
-  pub missed-refused : (out : List ℕ) {r : Refusal} {a : Parts} → a ≡ partsOf (partsRefusal policy key keeper) → a ≡ PartRefused r
+  pub missed-refused : (out : List ℕ) {r : Refusal} {a : Parts} → a ≡ partsOf (lentRefusal policy key keeper) → a ≡ PartRefused r
       → Missed policy key keeper out (Refused r) keeper out
   unfolding missRefused
   missed-refused out e t =
-      let refused = parts-refused (partsRefusal policy key keeper) e t in
+      let refused = parts-refused (lentRefusal policy key keeper) e t in
       record { answer = rw refused; bytes = rw refused; meaning = rw refused; given = rw refused }
 
-  pub fine-of : {a : Parts} → a ≡ partsOf (partsRefusal policy key keeper) → a ≡ PartsFine → Fine policy key keeper
+  pub fine-of : {a : Parts} → a ≡ partsOf (lentRefusal policy key keeper) → a ≡ PartsFine → Fine policy key keeper
   fine-of e t =
-      let fine = parts-fine policy key keeper (parts-none (partsRefusal policy key keeper) e t) in
+      let fine = parts-fine policy key keeper (parts-none (lentRefusal policy key keeper) e t) in
       record { few = passed-few policy (fine .accepted); long = fine .long; whole = fine .whole }
 
 -- ---- so it is the miss's answer
@@ -56,11 +56,11 @@ module _ (policy keeper out : List ℕ) {d : Decision} {r : MissAnswer} {keeper�
   n = d .outcome .outcome
 
   abbrev As : Miss → Type 0
-  As m = MissedAs policy keeper m (roomRefusal (missWrite k m) (length out)) out r keeper′ out′
+  As m = MissedAs policy keeper m (shortForWrite (missWrite k m) (length out)) out r keeper′ out′
 
   -- outcomes 0 and 4: no write is given
-  answer-quiet : {x : Outcome} → givesWrite n ≡ false → asOutcome (d .outcome) ≡ x → r ≡ answerOf none x
-  answer-quiet g e = (rw g at (c .answer)) ∙ ap (answerOf none) e
+  answer-quiet : {x : Outcome} → givesWrite n ≡ false → asOutcome (d .outcome) ≡ x → r ≡ missAnswerOf none x
+  answer-quiet g e = (rw g at (c .answer)) ∙ ap (missAnswerOf none) e
 
   bytes-quiet : givesWrite n ≡ false → keeper′ ≡ keeper
   bytes-quiet g = rw (g, quiet-places n g) at (c .bytes)
@@ -74,48 +74,48 @@ module _ (policy keeper out : List ℕ) {d : Decision} {r : MissAnswer} {keeper�
   -- the others: a write is given
   module _ (w : Write) (g : givesWrite n ≡ true) where
     abbrev refused : Option Refusal
-    refused = roomRefusal (some w) (length out)
+    refused = shortForWrite (some w) (length out)
 
-    answer-given : {x : Outcome} → asOutcome (d .outcome) ≡ x → r ≡ answerOf refused x
-    answer-given e = (rw g at (c .answer)) ∙ ap (answerOf refused) e
+    answer-given : {x : Outcome} → asOutcome (d .outcome) ≡ x → r ≡ missAnswerOf refused x
+    answer-given e = (rw g at (c .answer)) ∙ ap (missAnswerOf refused) e
 
     out-given : asWrite (d .write) ≡ w → out′ ≡ unlessRefused refused out (outWith (some w) out)
     out-given e = (rw g at (c .given)) ∙ ap (λ (x : Write). unlessRefused refused out (splice 0 (encodeWrite x) out)) e
 
     -- outcome 5 leaves the keeper
-    bytes-left : placesEntry n ≡ false → keeper′ ≡ unlessRefused refused keeper keeper
+    bytes-left : givesNewEntry n ≡ false → keeper′ ≡ unlessRefused refused keeper keeper
     bytes-left p = rw (g, p) at (c .bytes)
 
-    slots-left : placesEntry n ≡ false → slots keySize keeper′ ≡ unlessRefused refused k k
+    slots-left : givesNewEntry n ≡ false → slots keySize keeper′ ≡ unlessRefused refused k k
     slots-left p = rw (g, p) at (c .meaning)
 
     -- outcomes 2 and 3 place the entry
-    bytes-placed : placesEntry n ≡ true → asWrite (d .write) ≡ w
+    bytes-placed : givesNewEntry n ≡ true → asWrite (d .write) ≡ w
         → keeper′ ≡ unlessRefused refused keeper (putSlot keySize keeper (w .slot) (written (entryIn w)))
     bytes-placed p e =
         (rw (g, p) at (c .bytes)) ∙ ap (λ (x : Write). unlessRefused refused keeper (putSlot keySize keeper (x .slot) (written (entryIn x)))) e
 
-    slots-placed : placesEntry n ≡ true → asWrite (d .write) ≡ w
+    slots-placed : givesNewEntry n ≡ true → asWrite (d .write) ≡ w
         → slots keySize keeper′ ≡ unlessRefused refused k (set k (w .slot) (written (entryIn w)))
     slots-placed p e =
         (rw (g, p) at (c .meaning)) ∙ ap (λ (x : Write). unlessRefused refused k (set k (x .slot) (written (entryIn x)))) e
 
   pub missed-as : (m : Miss) → DecidedAs policy keeper m d → As m
   missed-as noRule is =
-      let g = none-quiet (deciding policy) k (d .outcome) (is .outcome) in
+      let g = none-quiet (policyView policy) k (d .outcome) (is .outcome) in
       record { answer = answer-quiet g (is .outcome); bytes = bytes-quiet g; meaning = slots-quiet g; given = out-quiet g }
   missed-as (again i) is =
       let w : Write = writeFor i (entryAt k i) in
-      let h = again-given (deciding policy) k (d .outcome) (is .outcome) in
+      let h = again-given (policyView policy) k (d .outcome) (is .outcome) in
       record {
         answer = answer-given w (h .0) (is .outcome);
         bytes = bytes-left w (h .0) (h .1);
         meaning = slots-left w (h .0) (h .1);
         given = out-given w (h .0) (is .write);
       }
-  missed-as (place i x) is =
+  missed-as (newEntry i x) is =
       let w : Write = writeFor i x in
-      let h = entry-given (deciding policy) k (d .outcome) i x (is .outcome) in
+      let h = entry-given (policyView policy) k (d .outcome) i x (is .outcome) in
       record {
         answer = answer-given w (h .0) (is .outcome);
         bytes = bytes-placed w (h .0) (h .1) (is .write);
@@ -123,11 +123,11 @@ module _ (policy keeper out : List ℕ) {d : Decision} {r : MissAnswer} {keeper�
         given = out-given w (h .0) (is .write);
       }
   missed-as (usedUp rule) is =
-      let g = full-quiet (deciding policy) k (d .outcome) (is .outcome) in
+      let g = full-quiet (policyView policy) k (d .outcome) (is .outcome) in
       record { answer = answer-quiet g (is .outcome); bytes = bytes-quiet g; meaning = slots-quiet g; given = out-quiet g }
 
 -- a call whose parts are fine is the call without its checks
-pub missed : (policy key keeper out : List ℕ) {a : Parts} {r : MissAnswer} {keeper′ out′ : List ℕ} → a ≡ partsOf (partsRefusal policy key keeper)
+pub missed : (policy key keeper out : List ℕ) {a : Parts} {r : MissAnswer} {keeper′ out′ : List ℕ} → a ≡ partsOf (lentRefusal policy key keeper)
     → a ≡ PartsFine → OnMiss policy key keeper out r keeper′ out′ → Missed policy key keeper out r keeper′ out′
 unfolding missRefused
-missed policy key keeper out e t is = rw (parts-none (partsRefusal policy key keeper) e t) is
+missed policy key keeper out e t is = rw (parts-none (lentRefusal policy key keeper) e t) is

@@ -15,22 +15,22 @@ use Rattle.records.specs.Layout.{writeSize}
 use Rattle.checks.specs.Refusals.{refusal}
 use Rattle.end_records.specs.Writes.{encodeWrite}
 use Rattle.end_records.specs.MessageStructs.{asWrite}
-use Rattle.records.specs.Outcomes.{givesWrite, placesEntry}
+use Rattle.records.specs.Outcomes.{givesWrite, givesNewEntry}
 use Rattle.records.proofs.OutcomeLaws.{quiet-places, gives-places, again-places}
 use Rattle.slots.specs.Puts.{EntryPut}
 use Rattle.miss.specs.declared.decision.Decision.{Decision}
-use Rattle.miss.specs.Carrying.{EntryPlaced, CarriedOut}
+use Rattle.miss.specs.Carry.{NewEntryPut, CarriedOut}
 use Rattle.miss.specs.declared.carry.MissAnswer.the-variants.{Refused, Outcome as Told}
 
 -- ---- the entry of a write
 
 module _ (keeper : List ℕ) (outcome : ℕ) (w : Write) (gives : givesWrite outcome ≡ true) where
-  pub entry-placed : {s : Slot} {keeper′ : List ℕ} → outcome ≢ 5 → EntryPut keeper w s keeper′ → EntryPlaced outcome w keeper keeper′
+  pub entry-placed : {s : Slot} {keeper′ : List ℕ} → outcome ≢ 5 → EntryPut keeper w s keeper′ → NewEntryPut outcome w keeper keeper′
   entry-placed n p =
-      let placed : placesEntry outcome ≡ true = gives-places outcome gives n in
+      let placed : givesNewEntry outcome ≡ true = gives-places outcome gives n in
       record { bytes = rw (placed, ← p .slot) (p .put .bytes); meaning = rw (placed, ← p .slot) (p .put .meaning) }
 
-  pub entry-left : outcome ≡ 5 → EntryPlaced outcome w keeper keeper
+  pub entry-left : outcome ≡ 5 → NewEntryPut outcome w keeper keeper
   entry-left e = record { bytes = rw (again-places outcome e); meaning = rw (again-places outcome e) }
 
 -- ---- a decision carried out
@@ -55,7 +55,7 @@ module _ (d : Decision) (keeper out : List ℕ) where
         let s : ltb (length out) (writeSize keySize) ≡ true = lt-ltb (length out) (writeSize keySize) l in
         record { answer = rw (sym e ∙ t, s); bytes = rw (sym e ∙ t, s); meaning = rw (sym e ∙ t, s); given = rw (sym e ∙ t, s) }
 
-    pub carried-given : {keeper′ out′ : List ℕ} → writeSize keySize ≤ length out → EntryPlaced o (asWrite (d .write)) keeper keeper′
+    pub carried-given : {keeper′ out′ : List ℕ} → writeSize keySize ≤ length out → NewEntryPut o (asWrite (d .write)) keeper keeper′
         → out′ ≡ splice 0 (encodeWrite (asWrite (d .write))) out → CarriedOut d keeper out (Told (d .outcome)) keeper′ out′
     carried-given l put w =
         let s : ltb (length out) (writeSize keySize) ≡ false = le-ltb (length out) (writeSize keySize) l in

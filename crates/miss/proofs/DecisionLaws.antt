@@ -1,116 +1,45 @@
--- What each branch of a miss's decision comes to. Assumes nothing.
-use mathlib.Core.Path.{_≡_, sym, ap, _∙_}
+-- What a decision about slot i comes to. Assumes nothing.
+use mathlib.Core.Path.{_≡_, sym, _∙_}
 use mathlib.Core.List.{List}
 use mathlib.Core.Logic.{_≢_}
-use mathlib.Core.Option.{none, some}
-use Prim.Native.Nat.{ℕ, suc, _<_}
-use native.Mathlib.Omega.{arith}
+use Prim.Native.Nat.{ℕ, _<_}
 use borrow.Author.Tests.{eq-eqb, ne-eqb}
-use Rattle.ends.specs.Records.{Slot, Write, writeFor}
-use Rattle.model.specs.Policy.{Rule as PolicyRule, ruleAt}
-use Rattle.model.specs.Isolate.{Isolated, isolate}
-use Rattle.ends.specs.Ends.{firstFor, top, largest, roomIn, again, onMiss, nextEntry}
+use Rattle.ends.specs.Records.{Slot, slotAt}
+use Rattle.ends.specs.Ends.{again}
 use Rattle.ends.specs.Trace.{nothing}
-use Rattle.ends.proofs.Slots.{roomIn-lt}
-use Rattle.ternary.specs.Sizes.{keySize, positions}
-use Rattle.records.specs.Rules.{rules}
-use Rattle.end_records.specs.Slots.{slots}
-use Rattle.records.specs.SlotBuffers.{slotCount, WholeSlots}
-use Rattle.slots.specs.Holding.{holdingOf}
-use Rattle.slots.specs.declared.find.Holding.{Holding}
-use Rattle.slots.specs.declared.find.Holding.the-variants.{Nowhere, At}
-use Rattle.end_records.proofs.SlotLaws.{slot-count}
-use Rattle.slots.proofs.HoldingLaws.{found-nowhere, found-at, held-below}
-use Rattle.end_records.specs.MessageStructs.{asWrite}
-use Rattle.records.specs.Outcomes.{asOutcome}
-use Rattle.policy.specs.Best.{bestFound}
-use Rattle.policy.specs.declared.search.BestFound.{BestFound}
-use Rattle.policy.specs.declared.search.BestFound.the-variants.{NoRule, Rule}
-use Rattle.policy.proofs.BestLaws.{found-none, found-rule, found-action, best-below}
-use Rattle.miss.specs.Decided.{deciding, DecidedAs, NoWrite, placedOutcome}
-use Rattle.miss.specs.declared.decision.Decision.{Decision}
-use Rattle.miss.specs.Decisions.{Fine, RuleFor, missWith, placeMiss, ruleMiss, missIn}
+use Rattle.ternary.specs.Sizes.{keySize}
+use Rattle.end_records.specs.Slots.{slotIn, slots}
+use Rattle.records.specs.SlotBuffers.{slotCount}
+use Rattle.end_records.proofs.SlotLaws.{slot-at}
+use Rattle.miss.specs.Decision.{DecidedAs, entryOutcome}
 
--- ---- the rule
+module _ (keeper : List ℕ) {i : ℕ} {old : Slot} (l : i < slotCount keySize keeper) (is : old ≡ slotIn keySize keeper i) where
+  abbrev k : List Slot
+  k = slots keySize keeper
 
-module _ (policy key keeper : List ℕ) where
-  abbrev ks : List Slot
-  ks = slots keySize keeper
+  there : slotAt k i ≡ old
+  there = slot-at keySize keeper i l ∙ sym is
 
-  pub room-inside : {i : ℕ} → WholeSlots keeper → i ≡ roomIn ks → i < slotCount keySize keeper
-  room-inside whole e = omega (arith, roomIn-lt ks (omega (arith, whole .some-there, slot-count keySize keeper)), slot-count keySize keeper)
-
-  -- a decision without a write names slot 0
-  blank-slot : {outcome action rule : ℕ} {d : Decision} → NoWrite outcome action rule d → d .write .slot ≡ 0
-  blank-slot is = ap (λ (w : Write). w .slot) (is .write)
-
-  pub used-up : {number action last : ℕ} {d : Decision} → RuleFor policy key number action → WholeSlots keeper → last ≡ largest ks → last ≡ top
-      → NoWrite 4 action number d → DecidedAs policy keeper (missWith policy key keeper (some number) none) d
-  used-up {number} rule whole e t is =
-      rw (eq-eqb (largest ks) top (sym e ∙ t))
+  -- its write again
+  pub again-decided : (policy : List ℕ) → DecidedAs policy keeper (again i)
       (record {
-        outcome = is .told ∙ ap (λ (a : ℕ). record { outcome = 4; action = a; rule = number; slot = nothing; evicted = nothing }) (rule .acts);
-        write = is .write;
-        inside = omega (arith, blank-slot is, whole .some-there);
+        outcome = record { outcome = 5; action = old .action; rule = old .rule; slot = i; evicted = nothing };
+        write = record {
+          slot = i;
+          sequence = old .sequence;
+          value = old .value;
+          mask = old .mask;
+          action = old .action;
+          rule = old .rule;
+        };
       })
+  again-decided policy = record { outcome = rw there; write = rw there; inside = l }
 
-  pub not-used-up : {number last : ℕ} {d : Decision} → last ≡ largest ks → last ≢ top
-      → DecidedAs policy keeper (placeMiss policy key keeper number) d
-      → DecidedAs policy keeper (missWith policy key keeper (some number) none) d
-  not-used-up e n is = rw (ne-eqb (largest ks) top (λ t. n (e ∙ t))) is
+  -- an entry written to it
+  pub placed-empty : {action rule : ℕ} → old .sequence ≡ 0
+      → record { outcome = 2; action = action; rule = rule; slot = i; evicted = nothing } ≡ entryOutcome k i action rule
+  placed-empty e = rw (there, eq-eqb (old .sequence) 0 e)
 
-  pub held : (number : ℕ) {i : ℕ} {h : Holding} {d : Decision} → h ≡ holdingOf (firstFor positions ks key) → h ≡ At i
-      → DecidedAs policy keeper (again i) d → DecidedAs policy keeper (ruleMiss policy key keeper number) d
-  held number {i} e t is = rw (found-at (firstFor positions ks key) i (sym t ∙ e)) is
-
-  pub held-inside : {i : ℕ} {h : Holding} → h ≡ holdingOf (firstFor positions ks key) → h ≡ At i → i < slotCount keySize keeper
-  held-inside {i} e t = held-below keeper key i (found-at (firstFor positions ks key) i (sym t ∙ e))
-
-  pub not-held : (number : ℕ) {h : Holding} {d : Decision} → h ≡ holdingOf (firstFor positions ks key) → h ≡ Nowhere
-      → DecidedAs policy keeper (missWith policy key keeper (some number) none) d → DecidedAs policy keeper (ruleMiss policy key keeper number) d
-  not-held number e t is = rw (found-nowhere (firstFor positions ks key) (sym t ∙ e)) is
-
-  -- ---- the best rule
-
-  abbrev pol : List PolicyRule
-  pol = rules keySize policy
-
-  pub no-rule : {b : BestFound} {d : Decision} → Fine policy key keeper → b ≡ bestFound policy key → b ≡ NoRule → NoWrite 0 0 nothing d
-      → DecidedAs policy keeper (missIn policy key keeper) d
-  unfolding onMiss
-  no-rule fine e t is =
-      rw (found-none policy key (sym e ∙ t))
-      (record { outcome = is .told; write = is .write; inside = omega (arith, blank-slot is, fine .whole .some-there) })
-
-  pub rule-for : {b : BestFound} {number action : ℕ} → Fine policy key keeper → b ≡ bestFound policy key → b ≡ Rule number action
-      → RuleFor policy key number action
-  rule-for {b} {number} {action} fine e t =
-      let is = found-rule policy key number action (sym e ∙ t) in
-      record {
-        ready = record { low = best-below policy key number is; few = fine .few; long = fine .long; is-best = is };
-        acts = found-action policy key number action (sym e ∙ t);
-      }
-
-  pub has-rule : {number action : ℕ} {d : Decision} → RuleFor policy key number action
-      → DecidedAs policy keeper (ruleMiss policy key keeper number) d → DecidedAs policy keeper (missIn policy key keeper) d
-  unfolding onMiss
-  has-rule rule is = rw (rule .ready .is-best) is
-
-  -- ---- an entry is placed
-
-  pub place-decided : {number number′ action sequence i : ℕ} {x : Isolated} {d : Decision} → RuleFor policy key number action → WholeSlots keeper
-      → sequence ≡ suc (largest ks) → number′ ≡ number → x ≡ isolate positions pol key number′ → i ≡ roomIn ks
-      → asOutcome (d .outcome) ≡ placedOutcome ks i action number
-      → asWrite (d .write) ≡ record { slot = i; sequence = sequence; value = x .value; mask = x .mask; action = action; rule = number }
-      → DecidedAs policy keeper (placeMiss policy key keeper number) d
-  place-decided {number} {number′} {action} {sequence} {i} {x} {d} rule whole s n e r o w =
-      let pattern : x ≡ isolate positions pol key number = e ∙ ap (isolate positions pol key) n in
-      let told : asOutcome (d .outcome) ≡ placedOutcome ks (roomIn ks) ((ruleAt pol number) .action) number = rw (← r, ← rule .acts) o in
-      let given : asWrite (d .write) ≡ writeFor (roomIn ks) (nextEntry (deciding policy) ks key number) =
-      w ∙ rw (r, s, pattern, rule .acts)
-      in
-      record {
-        outcome = told;
-        write = given;
-        inside = omega (arith, ap (λ (v : Write). v .slot) w, room-inside whole r);
-      }
+  pub placed-over : {action rule : ℕ} → old .sequence ≢ 0
+      → record { outcome = 3; action = action; rule = rule; slot = i; evicted = old .rule } ≡ entryOutcome k i action rule
+  placed-over n = rw (there, ne-eqb (old .sequence) 0 n)

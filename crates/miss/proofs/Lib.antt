@@ -1,7 +1,7 @@
 -- Laws of the decisions about one slot.
-pub mod DecidedLaws
--- Laws of the decision on a miss.
 pub mod DecisionLaws
+-- Laws of the decision on a miss.
+pub mod DecideLaws
 -- Laws of a decision that is carried out.
 pub mod OutcomeLaws
 pub mod CarryLaws

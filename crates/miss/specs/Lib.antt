@@ -1,8 +1,8 @@
 -- A decision on a miss, by value.
-pub mod Decided
+pub mod Decision
 -- What a miss comes to, by value.
-pub mod Decisions
+pub mod Decide
 -- A decision on a miss, carried out: what it leaves in the buffers.
-pub mod Carrying
+pub mod Carry
 -- What the keeper answers to a miss, and what it leaves in the buffers.
 pub mod Answers

@@ -12,7 +12,7 @@ ghost use Rattle.ternary.specs.Sizes.{keySize};
 ghost use Rattle.records.specs.SlotBuffers.{slotCount};
 ghost use Rattle.end_records.specs.MessageStructs.{asWrite};
 ghost use Rattle.records.specs.Outcomes.{givesWrite};
-ghost use Rattle.miss.specs.Carrying.{EntryPlaced, CarriedOut};
+ghost use Rattle.miss.specs.Carry.{NewEntryPut, CarriedOut};
 
 // A miss's refusal, or its outcome.
 pub enum MissAnswer {
@@ -21,9 +21,9 @@ pub enum MissAnswer {
 }
 
 // Puts the write's entry into its slot, unless the outcome is that the write is given again.
-pub fn place_entry(keeper: &mut [u8], outcome: u8, x: Write)
+pub fn put_new_entry(keeper: &mut [u8], outcome: u8, x: Write)
     requires { ⌜ (x .slot < slotCount keySize (now keeper)) × (givesWrite outcome ≡ true) ⌝ }
-    ensures { λ _. ⌜ EntryPlaced outcome (asWrite x) (now (keeper .entry)) (now (keeper .exit)) ⌝ }
+    ensures { λ _. ⌜ NewEntryPut outcome (asWrite x) (now (keeper .entry)) (now (keeper .exit)) ⌝ }
 {
     if outcome != records::kinds::AGAIN {
         slots::entry::put_entry(keeper, x);
@@ -46,7 +46,7 @@ pub fn carry_out(d: Decision, keeper: &mut [u8], out: &mut [u8]) -> MissAnswer
             place: 0,
         });
     }
-    place_entry(keeper, outcome.outcome, write);
+    put_new_entry(keeper, outcome.outcome, write);
     end_records::write::put_write(out, write);
     MissAnswer::Outcome(outcome)
 }

@@ -13,7 +13,7 @@ ghost use Rattle.records.specs.Layout.{mostSlots};
 ghost use Rattle.end_records.specs.Slots.{slots};
 ghost use Rattle.records.specs.SlotBuffers.{slotCount};
 ghost use Rattle.records.specs.Outcomes.{asOutcome};
-ghost use Rattle.miss.specs.Decided.{DecidedAs, NoWrite, placedOutcome};
+ghost use Rattle.miss.specs.Decision.{DecidedAs, NoWrite, entryOutcome};
 
 // The outcome of a miss, and the write that is given in outcomes 2, 3 and 5; in the others it is all 0.
 pub struct Decision {
@@ -72,9 +72,9 @@ pub fn write_again(keeper: &[u8], i: usize) -> Decision
 }
 
 // The outcome of a rule that is written to slot i: over its entry, whose rule is evicted, unless it is empty.
-pub fn placed_outcome(keeper: &[u8], i: usize, action: u16, rule: u16) -> Outcome
+pub fn entry_outcome(keeper: &[u8], i: usize, action: u16, rule: u16) -> Outcome
     requires { ⌜ (i < slotCount keySize (now keeper)) × (slotCount keySize (now keeper) ≤ mostSlots) ⌝ }
-    ensures { λ r. ⌜ asOutcome r ≡ placedOutcome (slots keySize (now (keeper .entry))) i action rule ⌝ }
+    ensures { λ r. ⌜ asOutcome r ≡ entryOutcome (slots keySize (now (keeper .entry))) i action rule ⌝ }
 {
     let old = slot_at(keeper, i);
     if old.sequence == 0 {

@@ -4,6 +4,6 @@ pub mod CheckLaws
 -- What the answer on a record tells its callers.
 pub mod RecordShown
 -- What the tests of the parts say.
-pub mod PartLaws
+pub mod LentLaws
 -- Laws of the best rule, for its callers.
 pub mod BestLaws

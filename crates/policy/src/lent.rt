@@ -4,11 +4,11 @@ use checks::refusal::Parts;
 use records::layout;
 ghost use mathlib.Core.Path.{_≡_};
 ghost use Rattle.checks.specs.Refusals.{partsOf};
-ghost use Rattle.policy.specs.Parts.{partsRefusal};
+ghost use Rattle.policy.specs.Lent.{lentRefusal};
 
 // Refusals 1, 2 and 3 of the policy, 1 of the key, 4 of the end.
-pub fn check_parts(policy: &[u8], key: &[u8], end: &[u8]) -> Parts
-    ensures { λ r. ⌜ r ≡ partsOf (partsRefusal (now (policy .entry)) (now (key .entry)) (now (end .entry))) ⌝ }
+pub fn check_lent(policy: &[u8], key: &[u8], end: &[u8]) -> Parts
+    ensures { λ r. ⌜ r ≡ partsOf (lentRefusal (now (policy .entry)) (now (key .entry)) (now (end .entry))) ⌝ }
 {
     if let crate::PolicyAnswer::Refused(refusal) = crate::check(policy) {
         return Parts::Refused(refusal);

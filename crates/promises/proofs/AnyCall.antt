@@ -7,7 +7,7 @@ use native.Mathlib.Omega.{arith}
 use lib.ListN.{length, set}
 use Rattle.model.specs.Bits.{Bytes}
 use Rattle.ends.specs.Records.{Slot, Report, Totals, written, slotAt}
-use Rattle.ends.specs.Ends.{Miss, noRule, again, place, usedUp, missKeeper, isCurrent, confirmed, afterReport}
+use Rattle.ends.specs.Ends.{Miss, noRule, again, newEntry, usedUp, missKeeper, isCurrent, confirmed, afterReport}
 use Rattle.ends.specs.Trace.{Ends}
 use Rattle.ends.specs.Totals.{totalsAfter}
 use Rattle.model.proofs.Cases.{by-cases}
@@ -31,15 +31,15 @@ use Rattle.policy.specs.Refusals.{policyRefusal}
 use Rattle.policy.specs.Answers.{bestRefusal}
 use Rattle.policy.proofs.Acceptance.{accepted-bytes}
 use Rattle.table.proofs.AfterLaws.{after-lookup, after-write}
-use Rattle.slots.specs.Settling.{reportBytes}
+use Rattle.slots.specs.Settle.{reportBytes}
 use Rattle.keeper.specs.Reports.{reportRefused, reportAnswer}
 use Rattle.keeper.proofs.ReportLaws.{accepted-of}
-use Rattle.miss.specs.Decisions.{missIn}
-use Rattle.policy.specs.Parts.{partsRefusal}
-use Rattle.policy.proofs.PartLaws.{parts-fine}
+use Rattle.miss.specs.Decide.{missIn}
+use Rattle.policy.specs.Lent.{lentRefusal}
+use Rattle.policy.proofs.LentLaws.{parts-fine}
 use Rattle.miss.specs.Answers.{missRefused, missBytes}
 use Rattle.totals.specs.declared.Totals.{Totals as TotalsStruct}
-use Rattle.run.specs.Sending.{endsIn}
+use Rattle.run.specs.Send.{endsIn}
 use Rattle.run.specs.Refusals.{runRefusal}
 use Rattle.run.specs.Runs.{outcomesOf, endsOf, runOf, RunIs}
 use Rattle.run.specs.declared.RunAnswer.the-variants.{Refused, Packets}
@@ -67,16 +67,16 @@ module _ {count : ℕ} {s : State} (f : Formed count s) where
   miss-slots : (m : Miss) → MissFits (slotCount keySize (s .keeper)) m → slots keySize (missBytes (s .keeper) m) ≡ missKeeper k m
   miss-slots noRule h = refl
   miss-slots (again i) h = refl
-  miss-slots (place i e) h = put-slots i (written e) (h .0) (h .1)
+  miss-slots (newEntry i e) h = put-slots i (written e) (h .0) (h .1)
   miss-slots (usedUp r) h = refl
 
-  miss-meant : (policy key : List ℕ) (room : ℕ) → Bytes policy → (o : Option Refusal) → missRefused policy key (s .keeper) room ≡ o
+  miss-meant : (policy key : List ℕ) (outLen : ℕ) → Bytes policy → (o : Option Refusal) → missRefused policy key (s .keeper) outLen ≡ o
       → let m = missIn policy key (s .keeper) in
       slots keySize (unlessRefused o (s .keeper) (missBytes (s .keeper) m)) ≡ unlessRefused o k (missKeeper k m)
   unfolding missRefused
-  miss-meant policy key room b (some x) e = refl
-  miss-meant policy key room b none e =
-      let fine = parts-fine policy key (s .keeper) (none-first (partsRefusal policy key (s .keeper)) _ e .0) .accepted in
+  miss-meant policy key outLen b (some x) e = refl
+  miss-meant policy key outLen b none e =
+      let fine = parts-fine policy key (s .keeper) (none-first (lentRefusal policy key (s .keeper)) _ e .0) .accepted in
       miss-slots (missIn policy key (s .keeper))
       (miss-fits policy b (accepted-bytes policy .0 fine) k (keeper-slots f) (keeper-whole f .some-there) key)
 

@@ -7,7 +7,7 @@ use mathlib.Core.Option.{Option, none, some}
 use Prim.Native.Nat.{ℕ}
 use lib.ListN.{getElem?}
 use Rattle.ends.specs.Records.{Write, Report}
-use Rattle.ends.specs.Ends.{Key, Decisions, lookup, onMiss, missWrite, writeRefusal, writeReport, reportRefusal}
+use Rattle.ends.specs.Ends.{Key, PolicyView, lookup, onMiss, missWrite, writeRefusal, writeReport, reportRefusal}
 use Rattle.ends.specs.World.{World, Event, miss, writeArrives, reportArrives, packet, refused, start, step, run}
 use Rattle.ends.specs.World.{sent, hitReport, unless, tableTakes, keeperTakes, deliverWrite, deliverReport}
 use Rattle.ends.specs.Promise.{Kept}
@@ -45,7 +45,7 @@ withMessages b ws rs = record { keeper = b .keeper; table = b .table; writes = w
 as-ends : {a b : World} → Among a b → withMessages b (a .writes) (a .reports) ≡ a
 as-ends {a} h i = let e = sym (h .ends) i in record { keeper = e .keeper; table = e .table; writes = a .writes; reports = a .reports }
 
-module _ (n : ℕ) (p : Decisions) where
+module _ (n : ℕ) (p : PolicyView) where
   -- ---- what one event does, an event does where there are more messages
 
   module _ (b : World) (ws : List Write) (rs : List Report) (w : Within ws (b .writes)) (r : Within rs (b .reports)) where
@@ -149,15 +149,15 @@ module _ (n : ℕ) (p : Decisions) where
 
 -- ---- grown from cleared ends of so many slots
 
-pub record Grown (p : Decisions) (count : ℕ) (a : World) : Type 0 where
+pub record Grown (p : PolicyView) (count : ℕ) (a : World) : Type 0 where
   pub events : List Event
   pub among : Among a (run positions p (start keySize count) events)
 
-pub grown-start : (p : Decisions) (count : ℕ) → Grown p count (start keySize count)
+pub grown-start : (p : PolicyView) (count : ℕ) → Grown p count (start keySize count)
 unfolding run
 grown-start p count = record { events = []; among = record { ends = refl; writes = λ x m. m; reports = λ x m. m } }
 
-module _ (p : Decisions) (count : ℕ) (a : World) (g : Grown p count a) where
+module _ (p : PolicyView) (count : ℕ) (a : World) (g : Grown p count a) where
   abbrev b : World
   b = run positions p (start keySize count) (g .events)
 

@@ -10,7 +10,7 @@ use lib.ListN.{length}
 use borrow.Author.Tests.{ltb-false}
 use Rattle.model.specs.Bits.{Bytes}
 use Rattle.ends.specs.Records.{Slot, Report, written, slotAt, entryAt, writeFor}
-use Rattle.ends.specs.Ends.{Decisions, Miss, noRule, again, place, usedUp, isEmpty, missWrite, isCurrent, confirmed, reportRefusal}
+use Rattle.ends.specs.Ends.{PolicyView, Miss, noRule, again, newEntry, usedUp, isEmpty, missWrite, isCurrent, confirmed, reportRefusal}
 use Rattle.model.specs.Refusals.{shortOutput}
 use Rattle.ends.specs.World.{miss as missEvent, reportArrives, step}
 use Rattle.ends.specs.Trace.{missOutcome}
@@ -28,18 +28,18 @@ use Rattle.end_records.proofs.ByteSlots.{ByteSlot, confirmed-byte, put-bytes}
 use Rattle.end_records.specs.Writes.{decodeWrite}
 use Rattle.end_records.specs.Reports.{decodeReport}
 use Rattle.policy.specs.Refusals.{AcceptedBytes}
-use Rattle.slots.specs.Settling.{reportBytes}
+use Rattle.slots.specs.Settle.{reportBytes}
 use Rattle.keeper.specs.Reports.{reportRefused, reportAnswer, Reported}
 use Rattle.keeper.specs.declared.ReportAnswer.{ReportAnswer}
 use Rattle.keeper.proofs.ReportLaws.{not-refused, accepted-of, report-meaning}
 use Rattle.records.specs.Outcomes.{givesWrite}
-use Rattle.miss.specs.Decided.{deciding}
-use Rattle.miss.specs.Decisions.{missIn}
-use Rattle.miss.specs.Carrying.{asStruct}
+use Rattle.miss.specs.Decision.{policyView}
+use Rattle.miss.specs.Decide.{missIn}
+use Rattle.miss.specs.Carry.{asStruct}
 use Rattle.miss.specs.declared.carry.MissAnswer.{MissAnswer}
 use Rattle.miss.specs.declared.carry.MissAnswer.the-variants.{Outcome}
-use Rattle.policy.specs.Parts.{partsRefusal}
-use Rattle.miss.specs.Answers.{roomRefusal, missRefused, missBytes, outWith, Missed}
+use Rattle.policy.specs.Lent.{lentRefusal}
+use Rattle.miss.specs.Answers.{shortForWrite, missRefused, missBytes, outWith, Missed}
 use Rattle.promises.specs.Calls.{State, missGave, after, miss as missCall, report as reportCall}
 use Rattle.promises.proofs.MessageBytes.{WriteBytes, ReportBytes}
 use Rattle.promises.proofs.MissBytes.{MissFits, miss-fits, write-there}
@@ -48,8 +48,8 @@ use Rattle.promises.proofs.Meaning.{meaning, same-world, Formed, Replac
 use Rattle.promises.proofs.Meaning.{keeper-formed}
 
 -- room for a write
-room-for : (room : ℕ) → need (not (ltb room (writeSize keySize))) shortOutput none ≡ none → writeSize keySize ≤ room
-room-for room e = ltb-false room (writeSize keySize) (not-true (need-none _ _ none e .0))
+long-enough : (room : ℕ) → need (not (ltb room (writeSize keySize))) shortOutput none ≡ none → writeSize keySize ≤ room
+long-enough room e = ltb-false room (writeSize keySize) (not-true (need-none _ _ none e .0))
 
 module _ {count : ℕ} {s : State} (f : Formed count s) where
   abbrev k : List Slot
@@ -72,21 +72,21 @@ module _ {count : ℕ} {s : State} (f : Formed count s) where
   miss-replaced : (m : Miss) → MissFits (slotCount keySize (s .keeper)) m → Replaced (s .keeper) (missBytes (s .keeper) m)
   miss-replaced noRule h = keeper-same
   miss-replaced (again i) h = keeper-same
-  miss-replaced (place i e) h = keeper-put i (written e) (h .0) (h .1)
+  miss-replaced (newEntry i e) h = keeper-put i (written e) (h .0) (h .1)
   miss-replaced (usedUp rule) h = keeper-same
 
   -- outcomes 2, 3 and 5 give a write
-  module _ (p : Decisions) (out : List ℕ) where
-    miss-gives : (m : Miss) → MissFits (slotCount keySize (s .keeper)) m → roomRefusal (missWrite k m) (length out) ≡ none
+  module _ (p : PolicyView) (out : List ℕ) where
+    miss-gives : (m : Miss) → MissFits (slotCount keySize (s .keeper)) m → shortForWrite (missWrite k m) (length out) ≡ none
         → Gives (decodeWrite keySize) WriteBytes (missGave (Outcome (asStruct (missOutcome p k m))) (outWith (missWrite k m) out)) (missWrite k m)
     unfolding givesWrite
     miss-gives noRule h room = gives-none
     miss-gives (again i) h room =
         gives-write (writeFor i (entryAt k i)) (write-there (s .keeper) (keeper-whole f) i (slotAt k i) h (keeper-slots f .each i h)) out
-        (room-for (length out) room)
-    miss-gives (place i e) h room =
+        (long-enough (length out) room)
+    miss-gives (newEntry i e) h room =
         let given =
-        gives-write (writeFor i e) (write-there (s .keeper) (keeper-whole f) i (written e) (h .0) (h .1)) out (room-for (length out) room)
+        gives-write (writeFor i e) (write-there (s .keeper) (keeper-whole f) i (written e) (h .0) (h .1)) out (long-enough (length out) room)
         in
         by-cases (isEmpty (slotAt k i)) (λ z. rw z given) (λ z. rw z given)
     miss-gives (usedUp rule) h room = gives-none
@@ -95,17 +95,17 @@ module _ {count : ℕ} {s : State} (f : Formed count s) where
     -- a miss that is not refused uses the one policy
     missed-with : {out : List ℕ} {r : MissAnswer} {keeper′ out′ : List ℕ} → Missed policy key (s .keeper) out r keeper′ out′
         → missRefused policy key (s .keeper) (length out) ≡ none
-        → Stepped (deciding policy) count s (after s (missCall policy key out r keeper′ out′))
+        → Stepped (policyView policy) count s (after s (missCall policy key out r keeper′ out′))
     unfolding step meaning missRefused
     missed-with {out} {r} {keeper′} {out′} is fine =
         let m : Miss = missIn policy key (s .keeper) in
         let h = miss-fits policy b accepted k (keeper-slots f) (keeper-whole f .some-there) key in
-        let room = none-first (partsRefusal policy key (s .keeper)) _ fine .1 in
+        let room = none-first (lentRefusal policy key (s .keeper)) _ fine .1 in
         let answer = rw fine at (is .answer) in
         let bytes = rw fine at (is .bytes) in
         let told = rw fine at (is .given) in
         let gives : Gives (decodeWrite keySize) WriteBytes (missGave r out′) (missWrite k m) =
-        rw (answer, told) (miss-gives (deciding policy) out m h room)
+        rw (answer, told) (miss-gives (policyView policy) out m h room)
         in
         record {
           event = missEvent key;
@@ -116,7 +116,7 @@ module _ {count : ℕ} {s : State} (f : Formed count s) where
     pub missed : (policy′ : List ℕ) {out : List ℕ} {r : MissAnswer} {keeper′ out′ : List ℕ} → Missed policy′ key (s .keeper) out r keeper′ out′
         → (o : Option Refusal) → missRefused policy′ key (s .keeper) (length out) ≡ o
         → (missRefused policy′ key (s .keeper) (length out) ≡ none → policy′ ≡ policy)
-        → Stepped (deciding policy) count s (after s (missCall policy′ key out r keeper′ out′))
+        → Stepped (policyView policy) count s (after s (missCall policy′ key out r keeper′ out′))
     missed policy′ is (some x) e uses =
         let refusal = rw e at (is .answer) in
         let left = rw e at (is .bytes) in
@@ -137,7 +137,7 @@ module _ {count : ℕ} {s : State} (f : Formed count s) where
       (confirmed-byte keySize (slotAt k (x .slot)) (x .hits) (keeper-slots f .each (x .slot) l) low))
       (λ e. keeper-same)
 
-  module _ (p : Decisions) {m : List ℕ} {r : ReportAnswer} {keeper′ : List ℕ} (is : Reported (s .keeper) m r keeper′) where
+  module _ (p : PolicyView) {m : List ℕ} {r : ReportAnswer} {keeper′ : List ℕ} (is : Reported (s .keeper) m r keeper′) where
     -- a report that is not refused was given
     reported-as : reportRefused (s .keeper) m ≡ none → List·Memᴰ m (s .reports) → Stepped p count s (after s (reportCall m r keeper′))
     unfolding step meaning reportAnswer

@@ -14,4 +14,4 @@ pub mod OpenNumbers
 pub mod AnyCall
 pub mod Promise
 -- One input admits one answer.
-pub mod Single
+pub mod OneAnswer

@@ -7,7 +7,7 @@ use native.Mathlib.Omega.{arith}
 use lib.ListN.{length}
 use Rattle.model.specs.Bits.{Bytes}
 use Rattle.ends.specs.Records.{Write, Report}
-use Rattle.ends.specs.Ends.{Decisions}
+use Rattle.ends.specs.Ends.{PolicyView}
 use Rattle.ends.specs.World.{World, Event, refused, sent, step}
 use Rattle.ternary.specs.Sizes.{keySize, positions}
 use Rattle.records.specs.Layout.{slotSize, mostSlots}
@@ -17,7 +17,7 @@ use Rattle.records.proofs.SlotBufferLaws.{whole-slots}
 use Rattle.end_records.proofs.SlotBytes.{ByteSlots, slots-byte}
 use Rattle.end_records.specs.Writes.{decodeWrite}
 use Rattle.end_records.specs.Reports.{decodeReport}
-use Rattle.run.specs.Sending.{endsIn}
+use Rattle.run.specs.Send.{endsIn}
 use Rattle.promises.specs.Calls.{State}
 use Rattle.promises.proofs.MessageBytes.{WriteBytes, ReportBytes}
 use Rattle.promises.proofs.PacketBytes.{ByteEnds}
@@ -52,7 +52,7 @@ pub record Replaced (bs bs′ : List ℕ) : Type 0 where
   pub bytes : Bytes bs′
 
 -- an event leads from what one state means to what the other means, which is formed too
-pub record Stepped (p : Decisions) (count : ℕ) (s s′ : State) : Type 0 where
+pub record Stepped (p : PolicyView) (count : ℕ) (s s′ : State) : Type 0 where
   pub event : Event
   pub meant : meaning s′ ≡ step positions p (meaning s) event
   pub formed : Formed count s′
@@ -86,7 +86,7 @@ module _ {count : ℕ} {s : State} (f : Formed count s) where
       record { keeper = rw k at keeper-slots; table = rw t at table-slots }
 
   -- nothing changed
-  pub stayed : {p : Decisions} → Stepped p count s s
+  pub stayed : {p : PolicyView} → Stepped p count s s
   unfolding step
   stayed = record { event = refused; meant = refl; formed = f }
 

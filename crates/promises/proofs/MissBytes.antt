@@ -12,11 +12,11 @@ use Rattle.model.specs.Bits.{Bytes, bitAt}
 use Rattle.ends.specs.Records.{Slot, writeFor, written, entryOf, slotAt}
 use Rattle.model.specs.Policy.{Rule, ruleAt, best}
 use Rattle.model.specs.Isolate.{isolatedAt, isolate}
-use Rattle.ends.specs.Ends.{Key, firstFor, top, largest, roomIn, Miss, noRule, again, place, usedUp, missOf, nextEntry, onMiss}
+use Rattle.ends.specs.Ends.{Key, firstFor, lastSequence, largest, slotForEntry, Miss, noRule, again, newEntry, usedUp, missOf, nextEntry, onMiss}
 use Rattle.model.proofs.Cases.{by-cases}
 use Rattle.model.proofs.BitLaws.{bit-lt, length-with}
 use Rattle.model.proofs.PolicyLaws.{best-inside}
-use Rattle.ends.proofs.Slots.{found, largest-le, roomIn-lt, live-inside}
+use Rattle.ends.proofs.Slots.{found, largest-le, slot-for-entry-lt, live-inside}
 use Rattle.ternary.specs.Sizes.{keySize, positions}
 use Rattle.buffers.proofs.PartLaws.{part-bytes}
 use Rattle.buffers.proofs.ByteLaws.{fixed-bytes, two-below}
@@ -27,21 +27,21 @@ use Rattle.records.specs.SlotBuffers.{slotCount, WholeSlots}
 use Rattle.end_records.proofs.ByteSlots.{ByteSlot}
 use Rattle.end_records.proofs.SlotBytes.{ByteSlots}
 use Rattle.policy.specs.Refusals.{AcceptedBytes}
-use Rattle.miss.specs.Decided.{deciding}
+use Rattle.miss.specs.Decision.{policyView}
 use Rattle.promises.proofs.MessageBytes.{ByteWrite}
 
 -- ---- the slots of an end
 
 module _ {count : ℕ} {k : List Slot} (h : ByteSlots count k) where
-  sequence-low : (i : ℕ) → slotAt k i .sequence ≤ top
+  sequence-low : (i : ℕ) → slotAt k i .sequence ≤ lastSequence
   sequence-low i =
       by-cases (ltb 0 (slotAt k i .sequence))
       (λ t. let l : i < count = omega (arith, live-inside k i (ltb-true 0 _ t), h .long) in
       omega (arith, h .each i l .fits .sequence-fits))
       (λ t. omega (arith, ltb-false 0 (slotAt k i .sequence) t))
 
-  largest-low : largest k ≤ top
-  largest-low = largest-le k top sequence-low
+  largest-low : largest k ≤ lastSequence
+  largest-low = largest-le k lastSequence sequence-low
 
   -- a slot that takes a key is one of them
   pub held-inside : (key : Key) (i : ℕ) → firstFor positions k key ≡ some i → i < count
@@ -70,7 +70,7 @@ write-there bs whole i x l b =
 abbrev pub MissFits : ℕ → Miss → Type 0
 MissFits count noRule = Unit {0}
 MissFits count (again i) = i < count
-MissFits count (place i e) = (i < count) × ByteSlot keySize (written e)
+MissFits count (newEntry i e) = (i < count) × ByteSlot keySize (written e)
 MissFits count (usedUp r) = Unit {0}
 
 module _ (policy : List ℕ) (h : Bytes policy) (is : AcceptedBytes policy) where
@@ -90,15 +90,15 @@ module _ (policy : List ℕ) (h : Bytes policy) (is : AcceptedBytes policy) wher
         (two-below (ruleSize keySize * r + ruleAction keySize) policy h (omega (arith, is .whole)))
 
   module _ {count : ℕ} (ks : List Slot) (b : ByteSlots count ks) (one : 1 ≤ count) (key : List ℕ) where
-    next-byte : (r : ℕ) → best positions pol key ≡ some r → eqb (largest ks) top ≡ false
-        → ByteSlot keySize (written (nextEntry (deciding policy) ks key r))
+    next-byte : (r : ℕ) → best positions pol key ≡ some r → eqb (largest ks) lastSequence ≡ false
+        → ByteSlot keySize (written (nextEntry (policyView policy) ks key r))
     unfolding isolate isolatedAt
     next-byte r e u =
         let inside : r < length pol = best-inside pol positions key r e in
         let l : r < ruleCount keySize policy = omega (arith, rule-count keySize policy) in
         record {
           fits = record {
-            sequence-fits = omega (arith, largest-low b, eqb-false (largest ks) top u);
+            sequence-fits = omega (arith, largest-low b, eqb-false (largest ks) lastSequence u);
             hits-fits = omega arith;
             value-long = length-with (bitAt key) _ _ ∙ is .accepted .value-long r inside;
             mask-long = length-with (λ p. 1) _ _ ∙ is .accepted .mask-long r inside;
@@ -112,13 +112,13 @@ module _ (policy : List ℕ) (h : Bytes policy) (is : AcceptedBytes policy) wher
         }
 
     fits-of : (found-best at : Option ℕ) (used : Bool) → best positions pol key ≡ found-best → firstFor positions ks key ≡ at
-        → eqb (largest ks) top ≡ used → MissFits count (missOf found-best at used (roomIn ks) (nextEntry (deciding policy) ks key))
+        → eqb (largest ks) lastSequence ≡ used → MissFits count (missOf found-best at used (slotForEntry ks) (nextEntry (policyView policy) ks key))
     fits-of none at used e f u = tt
     fits-of (some r) (some i) used e f u = held-inside b key i f
     fits-of (some r) none true e f u = tt
     fits-of (some r) none false e f u =
-        (omega (arith, roomIn-lt ks (omega (arith, b .long)), b .long), next-byte r e u)
+        (omega (arith, slot-for-entry-lt ks (omega (arith, b .long)), b .long), next-byte r e u)
 
-    pub miss-fits : MissFits count (onMiss positions (deciding policy) ks key)
+    pub miss-fits : MissFits count (onMiss positions (policyView policy) ks key)
     unfolding onMiss
-    miss-fits = fits-of (best positions pol key) (firstFor positions ks key) (eqb (largest ks) top) refl refl refl
+    miss-fits = fits-of (best positions pol key) (firstFor positions ks key) (eqb (largest ks) lastSequence) refl refl refl

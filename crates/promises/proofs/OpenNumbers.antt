@@ -8,7 +8,7 @@ use native.Mathlib.Omega.{arith}
 use lib.ListN.{length}
 use Rattle.model.specs.Below.{elem}
 use Rattle.model.proofs.BelowLaws.{place-in}
-use Rattle.buffers.specs.Numbers.{be}
+use Rattle.buffers.specs.BigEndian.{be}
 use Rattle.buffers.specs.Parts.{part, splice}
 use Rattle.records.specs.Layout.{mostSlots}
 use Rattle.checks.specs.declared.refusal.Refusal.{Refusal}

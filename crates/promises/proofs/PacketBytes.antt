@@ -7,7 +7,7 @@ use native.Mathlib.Omega.{arith}
 use lib.ListN.{set}
 use Rattle.model.specs.Bits.{Bytes}
 use Rattle.ends.specs.Records.{Slot, Write, Report, entryIn, writeFor, written, reportFor, slotAt, entryAt}
-use Rattle.ends.specs.Ends.{Key, firstFor, counted, Miss, noRule, again, place, usedUp, onMiss, missKeeper, missWrite}
+use Rattle.ends.specs.Ends.{Key, firstFor, counted, Miss, noRule, again, newEntry, usedUp, onMiss, missKeeper, missWrite}
 use Rattle.ends.specs.Ends.{writeRefusal, isNewer, afterWrite, writeReport, reportRefusal, isCurrent, afterReport}
 use Rattle.ends.specs.Trace.{Ends, reportedTo, writtenTo, sentTo, packetEnds, onePacket, trace}
 use Rattle.model.proofs.Cases.{cond-elim}
@@ -15,7 +15,7 @@ use Rattle.ternary.specs.Sizes.{keySize, positions}
 use Rattle.end_records.proofs.ByteSlots.{ByteSlot, with-byte, counted-byte, confirmed-byte}
 use Rattle.end_records.proofs.SlotBytes.{ByteSlots, set-byte, hits-low}
 use Rattle.policy.specs.Refusals.{AcceptedBytes}
-use Rattle.miss.specs.Decided.{deciding}
+use Rattle.miss.specs.Decision.{policyView}
 use Rattle.promises.proofs.MissBytes.{held-inside, MissFits, miss-fits}
 
 -- so many slots at each end, all of which bytes can hold
@@ -59,16 +59,16 @@ module _ {count : ℕ} where
       let x : Write = writeFor i (entryAt k i) in
       let same = with-byte keySize (slotAt k i) 0 0 0 (h .each i fits) (omega arith) (omega arith) (omega arith) in
       written-byte k t x h g (λ l. same) (writeRefusal positions t x)
-  missed-byte k t h g (place i e) fits =
+  missed-byte k t h g (newEntry i e) fits =
       let x : Write = writeFor i e in
       written-byte (set k i (written e)) t x (set-byte h i (written e) (λ l. fits .1)) g (λ l. fits .1) (writeRefusal positions t x)
   missed-byte k t h g (usedUp r) fits = record { keeper = h; table = g }
 
   module _ (policy : List ℕ) (b : Bytes policy) (accepted : AcceptedBytes policy) (one : 1 ≤ count) where
     packet-byte : (e : Ends) (key : Key) → ByteEnds count e → (at : Option ℕ) → firstFor positions (e .table) key ≡ at
-        → ByteEnds count (packetEnds positions (deciding policy) (e .keeper) (e .table) key at)
+        → ByteEnds count (packetEnds positions (policyView policy) (e .keeper) (e .table) key at)
     packet-byte e key h none q =
-        missed-byte (e .keeper) (e .table) (h .keeper) (h .table) (onMiss positions (deciding policy) (e .keeper) key)
+        missed-byte (e .keeper) (e .table) (h .keeper) (h .table) (onMiss positions (policyView policy) (e .keeper) key)
         (miss-fits policy b accepted (e .keeper) (h .keeper) one key)
     packet-byte e key h (some i) q =
         let l = held-inside (h .table) key i q in
@@ -81,8 +81,8 @@ module _ {count : ℕ} where
 
     -- ---- each packet in order
 
-    pub trace-byte : (keys : List Key) (e : Ends) → ByteEnds count e → ByteEnds count (trace positions (deciding policy) e keys)
+    pub trace-byte : (keys : List Key) (e : Ends) → ByteEnds count e → ByteEnds count (trace positions (policyView policy) e keys)
     unfolding trace onePacket
     trace-byte [] e h = h
     trace-byte (key ∷ keys) e h =
-        trace-byte keys (onePacket positions (deciding policy) e key) (packet-byte e key h (firstFor positions (e .table) key) refl)
+        trace-byte keys (onePacket positions (policyView policy) e key) (packet-byte e key h (firstFor positions (e .table) key) refl)

@@ -11,7 +11,7 @@ use lib.Seq.{take-all}
 use borrow.Author.Tests.{eq-eqb, le-ltb}
 use Rattle.model.specs.Bits.{Bytes}
 use Rattle.ends.specs.Records.{Slot, entryOf, entryAt}
-use Rattle.ends.specs.Ends.{Key, Decisions, Hit, lookup}
+use Rattle.ends.specs.Ends.{Key, PolicyView, Hit, lookup}
 use Rattle.ends.specs.World.{World}
 use Rattle.ends.specs.Promise.{Kept}
 use Rattle.ends.specs.Trace.{trace}
@@ -19,7 +19,7 @@ use Rattle.ends.specs.TraceLink.{endsOf, NoInnerRefusal}
 use Rattle.ends.proofs.Promise.{promise}
 use Rattle.ends.proofs.TraceLink.{inner-promise}
 use Rattle.ternary.specs.Sizes.{keySize, positions}
-use Rattle.buffers.specs.Numbers.{be}
+use Rattle.buffers.specs.BigEndian.{be}
 use Rattle.buffers.specs.Parts.{part}
 use Rattle.records.specs.Layout.{reportSize, mostRules, mostSlots}
 use Rattle.records.specs.Rules.{rules}
@@ -36,7 +36,7 @@ use Rattle.policy.specs.Best.{bestFound}
 use Rattle.policy.specs.Answers.{bestRefusal}
 use Rattle.policy.specs.BestAnswers.{bestAnswer}
 use Rattle.policy.proofs.Acceptance.{accepted-bytes}
-use Rattle.table.specs.Lookups.{answerOf, lookupAnswer}
+use Rattle.table.specs.Lookups.{lookupAnswerOf, lookupAnswer}
 use Rattle.table.specs.Writes.{writeCallRefusal}
 use Rattle.table.proofs.ModelLaws.{taken-here, good-lookup}
 use Rattle.keeper.specs.Reports.{numbered, reportRefused}
@@ -44,7 +44,7 @@ use Rattle.keeper.specs.Opens.{openIn, openRefusal, Opened}
 use Rattle.lists.specs.declared.ListAnswer.the-variants.{Count}
 use Rattle.keeper.proofs.ReportLaws.{report-meaning}
 use Rattle.keeper.proofs.OpenLaws.{list-few}
-use Rattle.miss.specs.Decided.{deciding}
+use Rattle.miss.specs.Decision.{policyView}
 use Rattle.promises.specs.Calls.{State, clearedEnds, Call, after, Sequence, Throughout}
 use Rattle.promises.specs.AnyCall.{AnyCall, AnyCallPromise}
 use Rattle.promises.specs.RunPromise.{QuietRuns, RunPromise}
@@ -59,7 +59,7 @@ use Rattle.promises.proofs.OpenNumbers.{empty-list, open-fine, open-lis
 -- ---- what the model keeps, of the bytes
 
 module _ (policy : List ℕ) (fine : policyRefusal policy ≡ none) {count : ℕ} {s : State} (f : Formed count s)
-    (kept : Kept positions (deciding policy) (meaning s)) where
+    (kept : Kept positions (policyView policy) (meaning s)) where
   abbrev k : List Slot
   k = slots keySize (s .keeper)
 
@@ -67,26 +67,26 @@ module _ (policy : List ℕ) (fine : policyRefusal policy ≡ none) {count : ℕ
   t = slots keySize (s .table)
 
   best-here : (key : List ℕ) → length key ≡ keySize → (o : Option Hit) → lookup positions t key ≡ o
-      → MissOrBest (answerOf none o) (bestAnswer policy key)
+      → MissOrBest (lookupAnswerOf none o) (bestAnswer policy key)
   unfolding bestAnswer bestRefusal bestFound keyRefusal meaning
   best-here key l none e = tt
   best-here key l (some h) e = rw (fine, eq-eqb (length key) keySize l, kept .rule key h e, kept .action key h e)
 
-  looked-best : (key : List ℕ) (room : ℕ) → length key ≡ keySize → reportSize ≤ room
-      → MissOrBest (lookupAnswer key (s .table) room) (bestAnswer policy key)
+  looked-best : (key : List ℕ) (outLen : ℕ) → length key ≡ keySize → reportSize ≤ outLen
+      → MissOrBest (lookupAnswer key (s .table) outLen) (bestAnswer policy key)
   unfolding lookupAnswer
-  looked-best key room l fits =
-      rw (good-lookup key (s .table) room .1 (record { long = l; whole = table-whole f; fits = λ i e. fits }))
+  looked-best key outLen l fits =
+      rw (good-lookup key (s .table) outLen .1 (record { long = l; whole = table-whole f; fits = λ i e. fits }))
       (best-here key l (lookup positions t key) refl)
 
-  opens : (room : ℕ) → 2 * count ≤ room → openRefusal (s .keeper) room ≡ none
+  opens : (outLen : ℕ) → 2 * count ≤ outLen → openRefusal (s .keeper) outLen ≡ none
   unfolding openRefusal
-  opens room l =
+  opens outLen l =
       let xs : List ℕ = openIn (s .keeper) in
       let short : length xs ≤ slotCount keySize (s .keeper) =
       list-few (s .keeper) (record { few = omega arith; same = take-all (length xs) xs (omega arith) })
       in
-      rw (slots-accepted (s .keeper) .1 (keeper-whole f), le-ltb room (2 * length xs) (omega (arith, f .keeper-long)))
+      rw (slots-accepted (s .keeper) .1 (keeper-whole f), le-ltb outLen (2 * length xs) (omega (arith, f .keeper-long)))
 
   -- an entry by its bytes, and in the list of slots
   keeper-entry : (i : ℕ) → i < count → entryAt k i ≡ entryOfBytes (s .keeper) i
@@ -109,11 +109,11 @@ module _ (policy : List ℕ) (fine : policyRefusal policy ≡ none) {count : ℕ
       let none-open : openIn (s .keeper) ≡ [] = empty-list (openIn (s .keeper)) (open-fine (s .keeper) 0 out out′ is .1) in
       sym (keeper-entry i l) ∙ kept .same none-open i ∙ table-entry i l
 
-  writes-taken : (m : List ℕ) → List·Memᴰ m (s .writes) → (room : ℕ) → reportSize ≤ room → writeCallRefusal (s .table) m room ≡ none
+  writes-taken : (m : List ℕ) → List·Memᴰ m (s .writes) → (outLen : ℕ) → reportSize ≤ outLen → writeCallRefusal (s .table) m outLen ≡ none
   unfolding meaning
-  writes-taken m given room fits =
+  writes-taken m given outLen fits =
       let h = f .writes-formed m given in
-      taken-here (s .table) m room (table-whole f) (h .long) (h .kind) (h .zeros)
+      taken-here (s .table) m outLen (table-whole f) (h .long) (h .kind) (h .zeros)
       (kept .writesTaken (decodeWrite keySize m) (Memᴰ·map (decodeWrite keySize) given)) fits
 
   reports-taken : (m : List ℕ) → List·Memᴰ m (s .reports) → reportRefused (s .keeper) m ≡ none
@@ -137,8 +137,8 @@ module _ (policy : List ℕ) (fine : policyRefusal policy ≡ none) {count : ℕ
 -- ---- at every point
 
 module _ (policy : List ℕ) (b : Bytes policy) (fine : policyRefusal policy ≡ none) where
-  abbrev p : Decisions
-  p = deciding policy
+  abbrev p : PolicyView
+  p = policyView policy
 
   accepted : AcceptedBytes policy
   accepted = accepted-bytes policy .0 fine

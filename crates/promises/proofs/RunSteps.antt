@@ -6,7 +6,7 @@ use Prim.Native.Nat.{ℕ, _*_}
 use lib.ListN.{length}
 use Rattle.model.specs.Bits.{Bytes}
 use Rattle.ends.specs.Records.{Slot, Totals}
-use Rattle.ends.specs.Ends.{Decisions}
+use Rattle.ends.specs.Ends.{PolicyView}
 use Rattle.ends.specs.Trace.{Ends}
 use Rattle.ternary.specs.Sizes.{keySize}
 use Rattle.buffers.specs.Parts.{spelled}
@@ -16,10 +16,10 @@ use Rattle.checks.specs.declared.refusal.Refusal.{Refusal}
 use Rattle.end_records.specs.Slots.{encodeSlot}
 use Rattle.end_records.proofs.SlotBytes.{ByteSlots, spelled-long, spelled-bytes}
 use Rattle.policy.specs.Refusals.{AcceptedBytes}
-use Rattle.miss.specs.Decided.{deciding}
-use Rattle.run.specs.Sending.{endsIn}
+use Rattle.miss.specs.Decision.{policyView}
+use Rattle.run.specs.Send.{endsIn}
 use Rattle.run.specs.Refusals.{runRefusal}
-use Rattle.run.specs.Runs.{endsOf, Shown, runOf, RunIs}
+use Rattle.run.specs.Runs.{endsOf, RunResult, runOf, RunIs}
 use Rattle.run.specs.declared.Ran.{Ran}
 use Rattle.promises.specs.Calls.{State, after, run as runCall}
 use Rattle.promises.proofs.PacketBytes.{trace-byte}
@@ -27,11 +27,11 @@ use Rattle.promises.proofs.Grown.{Grown, grown-step, grown-run}
 use Rattle.promises.proofs.Meaning.{meaning, Formed, Replaced, Stepped, both-slots, stayed}
 
 -- the state after a call is formed, and grown from cleared ends if the one before it was
-pub record Next (p : Decisions) (count : ℕ) (s s′ : State) : Type 0 where
+pub record Next (p : PolicyView) (count : ℕ) (s s′ : State) : Type 0 where
   pub formed : Formed count s′
   pub grown : Grown p count (meaning s) → Grown p count (meaning s′)
 
-pub by-event : {p : Decisions} {count : ℕ} {s s′ : State} → Stepped p count s s′ → Next p count s s′
+pub by-event : {p : PolicyView} {count : ℕ} {s s′ : State} → Stepped p count s s′ → Next p count s s′
 by-event {p} {count} {s} {s′} is =
     record { formed = is .formed; grown = λ g. rw (is .meant) (grown-step p count (meaning s) g (is .event)) }
 
@@ -46,9 +46,9 @@ module _ (policy : List ℕ) (b : Bytes policy) (accepted : AcceptedBytes policy
     next = after s (runCall policy trace out t r table′ keeper′ out′)
 
     -- its events follow those that went before
-    run-grown : Grown (deciding policy) count (meaning s) → Grown (deciding policy) count (meaning next)
+    run-grown : Grown (policyView policy) count (meaning s) → Grown (policyView policy) count (meaning next)
     unfolding meaning
-    run-grown g = grown-run (deciding policy) count (meaning s) g (keys keySize trace) (endsIn table′ keeper′) (rw fine at (is .meaning))
+    run-grown g = grown-run (policyView policy) count (meaning s) g (keys keySize trace) (endsIn table′ keeper′) (rw fine at (is .meaning))
 
     -- an end's bytes after it spell slots that bytes can hold, as many as before
     spelt-again : (bs bs′ : List ℕ) (new : List Slot) → length bs ≡ slotSize keySize * count → bs′ ≡ spelled encodeSlot new
@@ -60,8 +60,8 @@ module _ (policy : List ℕ) (b : Bytes policy) (accepted : AcceptedBytes policy
     replaced =
         let shown = rw fine at (is .whole) in
         let bytes = trace-byte policy b accepted (f .some-there) (keys keySize trace) (endsIn (s .table) (s .keeper)) (both-slots f) in (
-          spelt-again (s .keeper) keeper′ (ends .keeper) (f .keeper-long) (ap (λ (x : Shown). x .keeper) shown) (bytes .keeper),
-          spelt-again (s .table) table′ (ends .table) (f .table-long) (ap (λ (x : Shown). x .table) shown) (bytes .table),
+          spelt-again (s .keeper) keeper′ (ends .keeper) (f .keeper-long) (ap (λ (x : RunResult). x .keeper) shown) (bytes .keeper),
+          spelt-again (s .table) table′ (ends .table) (f .table-long) (ap (λ (x : RunResult). x .table) shown) (bytes .table),
         )
 
     run-formed : Formed count next
@@ -83,11 +83,11 @@ module _ (policy : List ℕ) (b : Bytes policy) (accepted : AcceptedBytes policy
       → RunIs policy′ trace (s .table) (s .keeper) out t r table′ keeper′ out′
       → (o : Option Refusal) → runRefusal policy′ trace (s .table) (s .keeper) (length out) t ≡ o
       → (runRefusal policy′ trace (s .table) (s .keeper) (length out) t ≡ none → policy′ ≡ policy)
-      → Next (deciding policy) count s (after s (runCall policy′ trace out t r table′ keeper′ out′))
+      → Next (policyView policy) count s (after s (runCall policy′ trace out t r table′ keeper′ out′))
   unfolding runOf
   ran policy′ is (some x) e uses =
       let shown = rw e at (is .whole) in
-      rw (ap (λ (x : Shown). x .table) shown, ap (λ (x : Shown). x .keeper) shown) (by-event (stayed f))
+      rw (ap (λ (x : RunResult). x .table) shown, ap (λ (x : RunResult). x .keeper) shown) (by-event (stayed f))
   ran policy′ is none e uses =
       let q : policy′ ≡ policy = uses e in
       record { formed = run-formed (rw q at is) (rw q at e); grown = run-grown (rw q at is) (rw q at e) }

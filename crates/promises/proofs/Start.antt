@@ -8,7 +8,7 @@ use lib.Seq.{take-at, drop-at, ext-getD}
 use Rattle.ends.specs.Records.{cleared}
 use Rattle.ends.specs.World.{start}
 use Rattle.ternary.specs.Sizes.{keySize}
-use Rattle.buffers.specs.Numbers.{be}
+use Rattle.buffers.specs.BigEndian.{be}
 use Rattle.buffers.specs.Parts.{chunk}
 use Rattle.records.specs.Layout.{slotSize, mostSlots}
 use Rattle.end_records.specs.Slots.{decodeSlot, slots}

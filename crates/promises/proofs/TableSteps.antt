@@ -6,7 +6,7 @@ use Prim.Native.Nat.{ℕ, _<_}
 use native.Mathlib.Omega.{arith}
 use lib.ListN.{length}
 use Rattle.ends.specs.Records.{Slot, Write, Report, reportFor, slotAt}
-use Rattle.ends.specs.Ends.{Decisions, firstFor, counted, hitAt, lookup, writeReport}
+use Rattle.ends.specs.Ends.{PolicyView, firstFor, counted, hitAt, lookup, writeReport}
 use Rattle.ends.specs.World.{packet, writeArrives, hitReport, step}
 use Rattle.ternary.specs.Sizes.{keySize, positions}
 use Rattle.checks.specs.declared.refusal.Refusal.{Refusal}
@@ -14,7 +14,7 @@ use Rattle.end_records.specs.Slots.{slots}
 use Rattle.records.specs.SlotBuffers.{slotCount, WholeSlots}
 use Rattle.end_records.proofs.ByteSlots.{counted-byte}
 use Rattle.end_records.proofs.SlotBytes.{slots-byte}
-use Rattle.slots.proofs.HoldingLaws.{held-below}
+use Rattle.slots.proofs.FindLaws.{held-below}
 use Rattle.end_records.specs.Writes.{decodeWrite}
 use Rattle.end_records.specs.Reports.{decodeReport, ReportFits}
 use Rattle.table.specs.Lookups.{lookupRefusal, lookupAnswer, tableAfterLookup, LookedUp}
@@ -30,7 +30,7 @@ use Rattle.promises.proofs.MessageBytes.{ReportBytes}
 use Rattle.promises.proofs.Given.{Gives, gives-none, gives-report, sent-meant, place-of}
 use Rattle.promises.proofs.Meaning.{meaning, same-world, Formed, Replaced, Stepped, whole-of, table-whole, table-slots, stayed, table-formed}
 
-module _ (p : Decisions) {count : ℕ} {s : State} (f : Formed count s) where
+module _ (p : PolicyView) {count : ℕ} {s : State} (f : Formed count s) where
   abbrev t : List Slot
   t = slots keySize (s .table)
 

@@ -4,4 +4,4 @@ pub mod Promise
 pub mod RunPromise
 pub mod AnyCall
 -- One input admits one answer.
-pub mod Single
+pub mod OneAnswer

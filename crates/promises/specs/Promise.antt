@@ -8,7 +8,7 @@ use lib.ListN.{length}
 use Rattle.model.specs.Bits.{Bytes}
 use Rattle.ends.specs.Records.{Entry, entryOf}
 use Rattle.ternary.specs.Sizes.{keySize}
-use Rattle.buffers.specs.Numbers.{be}
+use Rattle.buffers.specs.BigEndian.{be}
 use Rattle.buffers.specs.Parts.{part}
 use Rattle.records.specs.Layout.{reportSize, mostSlots}
 use Rattle.end_records.specs.Slots.{slotIn}
@@ -38,10 +38,10 @@ entryOfBytes bs i = entryOf (slotIn keySize bs i)
 -- what holds of the two ends, of so many slots each, at any point
 pub record KeptBytes (policy : List ℕ) (count : ℕ) (s : State) : Type 0 where
   -- the lookup call answers every key of 13 bytes with a miss or with the best rule and its action, where the output has room for a report
-  pub best : (key : List ℕ) (room : ℕ) → length key ≡ keySize → reportSize ≤ room
-      → MissOrBest (lookupAnswer key (s .table) room) (bestAnswer policy key)
+  pub best : (key : List ℕ) (outLen : ℕ) → length key ≡ keySize → reportSize ≤ outLen
+      → MissOrBest (lookupAnswer key (s .table) outLen) (bestAnswer policy key)
   -- the open call is not refused where the output has room for every slot's number
-  pub opens : (room : ℕ) → 2 * count ≤ room → openRefusal (s .keeper) room ≡ none
+  pub opens : (outLen : ℕ) → 2 * count ≤ outLen → openRefusal (s .keeper) outLen ≡ none
   -- a slot whose bytes decode to different entries at the two ends is one of the numbers that it wrote
   pub differs : (i : ℕ) → i < count → entryOfBytes (s .keeper) i ≢ entryOfBytes (s .table) i
       → (n : ℕ) (out out′ : List ℕ) → Opened (s .keeper) out (Count n) out′ → (j : ℕ) × (j < n) × (be (part 2 (2 * j) out′) ≡ i)
@@ -49,7 +49,7 @@ pub record KeptBytes (policy : List ℕ) (count : ℕ) (s : State) : Type 0 wher
   pub same : (out out′ : List ℕ) → Opened (s .keeper) out (Count 0) out′
       → (i : ℕ) → i < count → entryOfBytes (s .keeper) i ≡ entryOfBytes (s .table) i
   -- no message that was given is refused, where the output has room for a report
-  pub writesTaken : (m : List ℕ) → List·Memᴰ m (s .writes) → (room : ℕ) → reportSize ≤ room → writeCallRefusal (s .table) m room ≡ none
+  pub writesTaken : (m : List ℕ) → List·Memᴰ m (s .writes) → (outLen : ℕ) → reportSize ≤ outLen → writeCallRefusal (s .table) m outLen ≡ none
   pub reportsTaken : (m : List ℕ) → List·Memᴰ m (s .reports) → reportRefused (s .keeper) m ≡ none
 
 -- For every policy that the check does not refuse, 1 to 256 slots, and every sequence of calls from cleared ends, runs among them: at every point.

@@ -11,7 +11,7 @@ use Rattle.ternary.specs.Sizes.{keySize, positions}
 use Rattle.records.specs.Layout.{mostSlots}
 use Rattle.records.specs.Traces.{packetCount, keyIn, keys}
 use Rattle.policy.specs.Refusals.{policyRefusal}
-use Rattle.miss.specs.Decided.{deciding}
+use Rattle.miss.specs.Decision.{policyView}
 use Rattle.run.specs.Steps.{endsAfter}
 use Rattle.promises.specs.Calls.{State, clearedEnds, Call, Sequence, Throughout}
 
@@ -22,7 +22,7 @@ endsBefore policy s trace n = endsAfter policy (s .table) (s .keeper) (take n (k
 -- at each packet of any trace, run from here: the keeper takes a hit's report, the table a miss's write, and the keeper that write's report
 pub record QuietRuns (policy : List ℕ) (s : State) : Type 0 where
   pub quiet : (trace : List ℕ) (n : ℕ) → n < packetCount keySize trace
-      → NoInnerRefusal positions (deciding policy) (endsBefore policy s trace n) (keyIn keySize trace n)
+      → NoInnerRefusal positions (policyView policy) (endsBefore policy s trace n) (keyIn keySize trace n)
 
 -- For every policy that the check does not refuse, 1 to 256 slots, and every sequence of calls from cleared ends, runs among them: at every point.
 abbrev pub RunPromise : Type 0

@@ -11,10 +11,10 @@ use borrow.Author.Tests.{ne-eqb}
 use Rattle.model.specs.Bits.{Bytes}
 use Rattle.model.proofs.Cases.{by-cases, clash, neither-left, neither-right}
 use Rattle.ends.specs.Records.{Outcome}
-use Rattle.buffers.proofs.NumberLaws.{be-toBe}
+use Rattle.buffers.proofs.BigEndianLaws.{be-toBe}
 use Rattle.buffers.proofs.FieldLaws.{number-then, pair-then, pair-last}
 use Rattle.records.specs.Layout.{outcomeKind, outcomeZero, outcomeAction, outcomeRule, outcomeSlot, outcomeEvicted, outcomeSpare, outcomeSize}
-use Rattle.records.specs.Outcomes.{decodeOutcome, encodeOutcome, OutcomeFits, givesWrite, placesEntry}
+use Rattle.records.specs.Outcomes.{decodeOutcome, encodeOutcome, OutcomeFits, givesWrite, givesNewEntry}
 
 pub length-outcome : (x : Outcome) → length (encodeOutcome x) ≡ outcomeSize
 unfolding encodeOutcome
@@ -47,20 +47,20 @@ encode-decode-outcome c l h z y x =
 -- ---- which outcomes give a write, and which place its entry
 
 -- without a write no entry is placed
-pub quiet-places : (o : ℕ) → givesWrite o ≡ false → placesEntry o ≡ false
-unfolding givesWrite placesEntry
+pub quiet-places : (o : ℕ) → givesWrite o ≡ false → givesNewEntry o ≡ false
+unfolding givesWrite givesNewEntry
 quiet-places o g =
     let rest = neither-right (eqb o 2) (eqb o 3 || eqb o 5) g in
     rw (neither-left (eqb o 2) (eqb o 3 || eqb o 5) g, neither-left (eqb o 3) (eqb o 5) rest)
 
 -- a write that is not given again is of a new entry
-pub gives-places : (o : ℕ) → givesWrite o ≡ true → o ≢ 5 → placesEntry o ≡ true
-unfolding givesWrite placesEntry
+pub gives-places : (o : ℕ) → givesWrite o ≡ true → o ≢ 5 → givesNewEntry o ≡ true
+unfolding givesWrite givesNewEntry
 gives-places o g n =
     by-cases (eqb o 2)
     (λ t. rw t)
     (λ f. by-cases (eqb o 3) (λ t. rw (f, t)) (λ e. clash g (rw (f, e, ne-eqb o 5 n))))
 
-pub again-places : (o : ℕ) → o ≡ 5 → placesEntry o ≡ false
-unfolding placesEntry
+pub again-places : (o : ℕ) → o ≡ 5 → givesNewEntry o ≡ false
+unfolding givesNewEntry
 again-places o e = rw e

@@ -7,10 +7,10 @@ use lib.ListN.{length, take, drop, getD}
 use Rattle.model.specs.Bits.{Bytes}
 use Rattle.model.specs.Pattern.{matches}
 use Rattle.model.specs.Policy.{Rule, ruleAt, ruleMatches}
-use Rattle.buffers.specs.Numbers.{be, toBe}
+use Rattle.buffers.specs.BigEndian.{be, toBe}
 use Rattle.buffers.specs.Parts.{part}
 use Rattle.buffers.proofs.PartLaws.{part-part}
-use Rattle.buffers.proofs.NumberLaws.{be-toBe}
+use Rattle.buffers.proofs.BigEndianLaws.{be-toBe}
 use Rattle.buffers.proofs.FieldLaws.{part-past, value-there, mask-there, after-rows, part-then, number-then, pair-last}
 use Rattle.buffers.proofs.RecordLaws.{records-count, records-at}
 use Rattle.records.specs.Layout.{ruleValue, ruleMask, rulePriority, ruleAction, ruleSpare, ruleSize}

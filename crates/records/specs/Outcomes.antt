@@ -5,7 +5,7 @@ use mathlib.Core.List.{List, [], _∷_, _++_}
 use lib.Dec.{eqb}
 use lib.ListN.{getD}
 use Rattle.ends.specs.Records.{Outcome}
-use Rattle.buffers.specs.Numbers.{be, toBe}
+use Rattle.buffers.specs.BigEndian.{be, toBe}
 use Rattle.buffers.specs.Parts.{part}
 use Rattle.records.specs.declared.outcome.Outcome.{Outcome as OutcomeStruct}
 use Rattle.records.specs.Layout.{outcomeKind, outcomeAction, outcomeRule, outcomeSlot, outcomeEvicted}
@@ -46,5 +46,5 @@ unfoldable pub givesWrite : ℕ → Bool
 givesWrite outcome = eqb outcome 2 || (eqb outcome 3 || eqb outcome 5)
 
 -- in 2 and 3 it is of a new entry, which the keeper places
-unfoldable pub placesEntry : ℕ → Bool
-placesEntry outcome = eqb outcome 2 || eqb outcome 3
+unfoldable pub givesNewEntry : ℕ → Bool
+givesNewEntry outcome = eqb outcome 2 || eqb outcome 3

@@ -23,8 +23,8 @@ use Rattle.run.specs.Runs.{RunIs}
 use Rattle.run.specs.declared.RunAnswer.{RunAnswer}
 use Rattle.run.specs.declared.RunAnswer.the-variants.{Refused, Packets}
 use Rattle.run.specs.declared.Ran.{Ran}
-use Rattle.run_laws.specs.Calls.{Call, Made}
-use Rattle.run_laws.proofs.Accepted.{AcceptedRun, accepted-run, refused-by, read-back}
+use Rattle.run_laws.specs.Calls.{PastRun, Made}
+use Rattle.run_laws.proofs.AcceptedRuns.{AcceptedRun, accepted-run, refused-by, read-back}
 use Rattle.replay_text.specs.Files.{mostTraceBytes}
 use Rattle.lines.specs.Printed.{outcomeLine}
 use Rattle.lines.specs.Listing.{linesIn}
@@ -66,7 +66,7 @@ module _ (n : ℕ) (some-there : 1 ≤ n) (few-there : n ≤ mostSlots) (policy 
     {table keeper out : List ℕ} {ran : Ran} {table′ keeper′ out′ : List ℕ}
     (table-cleared : table ≡ clearedEnd n) (keeper-cleared : keeper ≡ clearedEnd n)
     (room : length out ≡ outputRoom) (is : RunIs policy trace table keeper out clearedTotals ran table′ keeper′ out′) where
-  abbrev call : Call
+  abbrev call : PastRun
   call =
       record {
         policy = policy;

@@ -19,14 +19,14 @@ use Rattle.records.specs.SlotBuffers.{slotCount}
 use Rattle.end_records.proofs.SlotLaws.{slot-count}
 use Rattle.records.proofs.SlotBufferLaws.{as-whole}
 use Rattle.end_records.specs.Reports.{encodeReport, ReportFits}
-use Rattle.table.specs.Lookups.{lookupRefusal, answerOf, LookedUp}
+use Rattle.table.specs.Lookups.{lookupRefusal, lookupAnswerOf, LookedUp}
 use Rattle.table.specs.declared.LookupAnswer.{LookupAnswer}
 use Rattle.table.specs.declared.LookupAnswer.the-variants.{Hit}
 use Rattle.table.proofs.ModelLaws.{good-lookup, looked-up}
 use Rattle.keeper.specs.Reports.{Reported}
 use Rattle.keeper.specs.declared.ReportAnswer.{ReportAnswer}
-use Rattle.run.proofs.SentLaws.{same-ends, told-fits, reported-to}
-use Rattle.run.specs.Packets.{FinePacket, Became, missedOutcome, missedEnds, packetOutcome, packetEnds}
+use Rattle.run.proofs.SendLaws.{same-ends, told-fits, reported-to}
+use Rattle.run.specs.Packets.{FinePacket, PacketDone, missedOutcome, missedEnds, packetOutcome, packetEnds}
 
 module _ {policy key table keeper out table′ out′ : List ℕ} {r : LookupAnswer}
     (fine : FinePacket policy key table keeper) (room : length out ≡ reportSize) (is : LookedUp key table out r table′ out′) where
@@ -41,14 +41,14 @@ module _ {policy key table keeper out table′ out′ : List ℕ} {r : LookupAns
 
   -- ---- a hit
 
-  found-in : {slot rule action : ℕ} (f : Option ℕ) → Hit slot rule action ≡ answerOf none (hitAt t f)
+  found-in : {slot rule action : ℕ} (f : Option ℕ) → Hit slot rule action ≡ lookupAnswerOf none (hitAt t f)
       → (f ≡ some slot) × (rule ≡ slotAt t slot .rule) × (action ≡ slotAt t slot .action)
   found-in {slot} none e = let z : _≡_ {A = ℕ} 0 1 = cc in absurd (omega arith)
   found-in {slot} (some i) e = let s : i ≡ slot = cc in (ap some s, rw (← s) cc, rw (← s) cc)
 
   pub packet-hit : {slot rule action : ℕ} {keeper′ : List ℕ} {a : ReportAnswer} → r ≡ Hit slot rule action → length table′ ≡ length table
       → Bytes table′ → Reported keeper out′ a keeper′
-      → Became (packetOutcome policy key table keeper) (packetEnds policy key table keeper)
+      → PacketDone (packetOutcome policy key table keeper) (packetEnds policy key table keeper)
       (record { outcome = 1; action = action; rule = rule; slot = slot; evicted = nothing }) table′ keeper′
   unfolding lookup afterLookup onePacket oneOutcome
   packet-hit {slot} {keeper′ = keeper′} e l h reported =
@@ -70,7 +70,7 @@ module _ {policy key table keeper out table′ out′ : List ℕ} {r : LookupAns
 
   -- ---- a miss
 
-  nowhere : (f : Option ℕ) → r ≡ answerOf none (hitAt t f) → ((slot rule action : ℕ) → r ≡ Hit slot rule action → _≡_ {A = ℕ} 0 1) → f ≡ none
+  nowhere : (f : Option ℕ) → r ≡ lookupAnswerOf none (hitAt t f) → ((slot rule action : ℕ) → r ≡ Hit slot rule action → _≡_ {A = ℕ} 0 1) → f ≡ none
   nowhere none e no-hit = refl
   nowhere (some i) e no-hit = let z : _≡_ {A = ℕ} 0 1 = no-hit i _ _ e in absurd (omega arith)
 
@@ -84,7 +84,7 @@ module _ {policy key table keeper out table′ out′ : List ℕ} {r : LookupAns
     same-slots = rw missed-here at (looked-up is open-to .1)
 
     pub packet-missed : {x : Outcome} {table₂ keeper₂ : List ℕ}
-        → Became (missedOutcome policy key keeper) (missedEnds policy key table′ keeper) x table₂ keeper₂
-        → Became (packetOutcome policy key table keeper) (packetEnds policy key table keeper) x table₂ keeper₂
+        → PacketDone (missedOutcome policy key keeper) (missedEnds policy key table′ keeper) x table₂ keeper₂
+        → PacketDone (packetOutcome policy key table keeper) (packetEnds policy key table keeper) x table₂ keeper₂
     unfolding onePacket oneOutcome
     packet-missed did = record { outcome = rw missed-here (did .outcome); ends = rw (missed-here, ← same-slots) (did .ends) }

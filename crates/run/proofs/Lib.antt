@@ -1,5 +1,5 @@
 -- Laws of a write that is sent, and of a report that goes to the keeper.
-pub mod SentLaws
+pub mod SendLaws
 -- Laws of a packet's messages, each delivered at once.
 pub mod MissLaws
 pub mod HitLaws

@@ -31,7 +31,7 @@ use Rattle.totals.specs.Sums.{asTotals, mostTotal, totalsFit, AtMost}
 use Rattle.totals.proofs.SumLaws.{fit-most}
 use Rattle.run.specs.Steps.{RunFits, RanOver}
 use Rattle.run.specs.Refusals.{traceRefusal, endsRefusal, runRefusal}
-use Rattle.run.specs.Runs.{Shown, runOf, RunIs}
+use Rattle.run.specs.Runs.{RunResult, runOf, RunIs}
 use Rattle.checks.specs.declared.refusal.Parts.{Parts}
 use Rattle.checks.specs.declared.refusal.Parts.the-variants.{Refused as PartRefused}
 use Rattle.run.specs.declared.RunAnswer.the-variants.{Refused, Packets}
@@ -85,7 +85,7 @@ module _ (policy trace table keeper out : List ℕ) (t : Totals) (fine : runRefu
 
 -- ---- the call
 
-same-shown : {a b : Shown} → a .answer ≡ b .answer → a .totals ≡ b .totals → a .table ≡ b .table → a .keeper ≡ b .keeper → a .out ≡ b .out → a ≡ b
+same-shown : {a b : RunResult} → a .answer ≡ b .answer → a .totals ≡ b .totals → a .table ≡ b .table → a .keeper ≡ b .keeper → a .out ≡ b .out → a ≡ b
 same-shown p q r s t i = record { answer = p i; totals = q i; table = r i; keeper = s i; out = t i }
 
 module _ (policy trace table keeper out : List ℕ) (t : TotalsStruct) where

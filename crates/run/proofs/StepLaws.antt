@@ -7,7 +7,7 @@ use native.Mathlib.Omega.{arith}
 use lib.ListN.{length, take, length-take}
 use lib.Seq.{take-suc, take-all}
 use Rattle.ends.specs.Records.{Outcome, Totals}
-use Rattle.ends.specs.Ends.{Key, Decisions}
+use Rattle.ends.specs.Ends.{Key, PolicyView}
 use Rattle.ends.specs.Trace.{Ends, onePacket, trace, oneOutcome, outcomes}
 use Rattle.ends.specs.Totals.{totalsAfter}
 use Rattle.ends.proofs.Totals.{length-outcomes, cut-law, totals-none, totals-append}
@@ -23,9 +23,9 @@ use Rattle.records.specs.Outcomes.{encodeOutcome}
 use Rattle.records.proofs.OutcomeLaws.{length-outcome}
 use Rattle.totals.specs.Sums.{mostTotal, AtMost}
 use Rattle.totals.proofs.SumLaws.{after-most}
-use Rattle.miss.specs.Decided.{deciding}
-use Rattle.run.specs.Sending.{endsIn}
-use Rattle.run.specs.Packets.{FinePacket, Became, packetOutcome, packetEnds}
+use Rattle.miss.specs.Decision.{policyView}
+use Rattle.run.specs.Send.{endsIn}
+use Rattle.run.specs.Packets.{FinePacket, PacketDone, packetOutcome, packetEnds}
 use Rattle.run.specs.Steps.{RunFits, Stepped, toldBy, endsAfter, RanOver}
 
 -- ---- a step
@@ -47,14 +47,14 @@ module _ {policy bs table keeper out key : List ℕ} {i : ℕ}
       }
 
   pub stepped : {x : Outcome} {t t′ : Totals} {table′ keeper′ out′ : List ℕ}
-      → Became (packetOutcome policy key table keeper) (packetEnds policy key table keeper) x table′ keeper′
+      → PacketDone (packetOutcome policy key table keeper) (packetEnds policy key table keeper) x table′ keeper′
       → out′ ≡ splice (outcomeSize * i) (encodeOutcome x) out → t′ ≡ totalsAfter t (x ∷ [])
       → Stepped policy (keyIn keySize bs i) i table keeper out t table′ keeper′ out′ t′
   stepped did told sums = rw (← e) (record { ends = did .ends; told = rw (← did .outcome) told; sums = rw (← did .outcome) sums })
 
 -- ---- all steps
 
-module _ (n : ℕ) (p : Decisions) (key : Key) (e : Ends) where
+module _ (n : ℕ) (p : PolicyView) (key : Key) (e : Ends) where
   one-trace : onePacket n p e key ≡ trace n p e (key ∷ [])
   unfolding trace
   one-trace = refl
@@ -85,7 +85,7 @@ module _ {policy bs table keeper out table₁ keeper₁ out₁ : List ℕ} {t t�
   -- as many outcomes as keys
   many : length (toldBy policy table keeper (take i (keys keySize bs))) ≡ i
   many =
-      length-outcomes positions (deciding policy) (take i (keys keySize bs)) (endsIn table keeper)
+      length-outcomes positions (policyView policy) (take i (keys keySize bs)) (endsIn table keeper)
       ∙ simp length-take (omega (arith, is .below, packet-count keySize bs))
 
   -- the totals stay small
@@ -137,15 +137,15 @@ module _ {policy bs table keeper out table₁ keeper₁ out₁ : List ℕ} {t t�
     next-ends : endsIn table₂ keeper₂ ≡ endsAfter policy table keeper (ks ++ (key ∷ []))
     next-ends =
         did .ends
-        ∙ ap (λ (e : Ends). onePacket positions (deciding policy) e key) (is .ran .ends)
-        ∙ one-trace positions (deciding policy) key (endsAfter policy table keeper ks)
-        ∙ sym (cut-law positions (deciding policy) (endsIn table keeper) t ks (key ∷ []) .ends)
+        ∙ ap (λ (e : Ends). onePacket positions (policyView policy) e key) (is .ran .ends)
+        ∙ one-trace positions (policyView policy) key (endsAfter policy table keeper ks)
+        ∙ sym (cut-law positions (policyView policy) (endsIn table keeper) t ks (key ∷ []) .ends)
 
     next-told : toldBy policy table keeper (ks ++ (key ∷ [])) ≡ os ++ (o ∷ [])
     next-told =
-        cut-law positions (deciding policy) (endsIn table keeper) t ks (key ∷ []) .answers
-        ∙ ap (λ (e : Ends). os ++ outcomes positions (deciding policy) e (key ∷ [])) (sym (is .ran .ends))
-        ∙ ap (λ (qs : List Outcome). os ++ qs) (one-told positions (deciding policy) key (endsIn table₁ keeper₁))
+        cut-law positions (policyView policy) (endsIn table keeper) t ks (key ∷ []) .answers
+        ∙ ap (λ (e : Ends). os ++ outcomes positions (policyView policy) e (key ∷ [])) (sym (is .ran .ends))
+        ∙ ap (λ (qs : List Outcome). os ++ qs) (one-told positions (policyView policy) key (endsIn table₁ keeper₁))
 
     next-out : out₂ ≡ splice 0 (spelled encodeOutcome (os ++ (o ∷ []))) out
     next-out =

@@ -1,5 +1,5 @@
 -- A write that goes to the table, and its report to the keeper.
-pub mod Sending
+pub mod Send
 -- One packet of a run, over the buffers of the two ends.
 pub mod Packets
 -- The packets of a run, one after another.

@@ -8,9 +8,9 @@ use Rattle.ends.specs.Trace.{Ends, sentTo, onePacket, missOutcome, oneOutcome}
 use Rattle.ternary.specs.Sizes.{keySize, positions}
 use Rattle.end_records.specs.Slots.{slots}
 use Rattle.records.specs.SlotBuffers.{WholeSlots}
-use Rattle.miss.specs.Decided.{deciding}
-use Rattle.miss.specs.Decisions.{Fine, missIn}
-use Rattle.run.specs.Sending.{endsIn}
+use Rattle.miss.specs.Decision.{policyView}
+use Rattle.miss.specs.Decide.{Fine, missIn}
+use Rattle.run.specs.Send.{endsIn}
 
 -- as much as one packet needs of its parts; a run's refusals ask for more
 pub record FinePacket (policy key table keeper : List ℕ) : Type 0 where
@@ -18,13 +18,13 @@ pub record FinePacket (policy key table keeper : List ℕ) : Type 0 where
   pub table-whole : WholeSlots table
 
 -- what became of a packet: its outcome, and what the two ends then hold
-pub record Became (o : Outcome) (e : Ends) (x : Outcome) (table′ keeper′ : List ℕ) : Type 0 where
+pub record PacketDone (o : Outcome) (e : Ends) (x : Outcome) (table′ keeper′ : List ℕ) : Type 0 where
   pub outcome : x ≡ o
   pub ends : endsIn table′ keeper′ ≡ e
 
 -- a miss goes to the keeper, and its write to the table
 abbrev pub missedOutcome : List ℕ → List ℕ → List ℕ → Outcome
-missedOutcome policy key keeper = missOutcome (deciding policy) (slots keySize keeper) (missIn policy key keeper)
+missedOutcome policy key keeper = missOutcome (policyView policy) (slots keySize keeper) (missIn policy key keeper)
 
 abbrev pub missedEnds : List ℕ → List ℕ → List ℕ → List ℕ → Ends
 missedEnds policy key table keeper =
@@ -34,7 +34,7 @@ missedEnds policy key table keeper =
 
 -- the packet
 abbrev pub packetOutcome : List ℕ → List ℕ → List ℕ → List ℕ → Outcome
-packetOutcome policy key table keeper = oneOutcome positions (deciding policy) (endsIn table keeper) key
+packetOutcome policy key table keeper = oneOutcome positions (policyView policy) (endsIn table keeper) key
 
 abbrev pub packetEnds : List ℕ → List ℕ → List ℕ → List ℕ → Ends
-packetEnds policy key table keeper = onePacket positions (deciding policy) (endsIn table keeper) key
+packetEnds policy key table keeper = onePacket positions (policyView policy) (endsIn table keeper) key

@@ -28,10 +28,10 @@ unfoldable pub endsRefusal : List ℕ → List ℕ → Option Refusal
 endsRefusal table keeper =
     orElse (slotsRefusal table) (orElse (slotsRefusal keeper) (need (eqb (length table) (length keeper)) lengthsDiffer none))
 
--- policy 1, 2, 3; trace 1, 2, 3; table 4; keeper 4; 12; 13; 5, where the output has so much room
+-- policy 1, 2, 3; trace 1, 2, 3; table 4; keeper 4; 12; 13; 5, where the output has outLen bytes
 unfoldable pub runRefusal : List ℕ → List ℕ → List ℕ → List ℕ → ℕ → Totals → Option Refusal
-runRefusal policy trace table keeper room t =
+runRefusal policy trace table keeper outLen t =
     orElse (policyRefusal policy)
     (orElse (traceRefusal trace)
     (orElse (endsRefusal table keeper)
-    (need (totalsFit t) totalsFull (need (leb (outcomeSize * packetCount keySize trace) room) shortOutput none))))
+    (need (totalsFit t) totalsFull (need (leb (outcomeSize * packetCount keySize trace) outLen) shortOutput none))))

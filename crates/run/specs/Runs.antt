@@ -14,7 +14,7 @@ use Rattle.checks.specs.declared.refusal.Refusal.{Refusal}
 use Rattle.end_records.specs.Slots.{encodeSlot}
 use Rattle.records.specs.Outcomes.{encodeOutcome}
 use Rattle.totals.specs.Sums.{asTotals}
-use Rattle.run.specs.Sending.{endsIn}
+use Rattle.run.specs.Send.{endsIn}
 use Rattle.run.specs.Steps.{toldBy, endsAfter}
 use Rattle.run.specs.Refusals.{runRefusal}
 use Rattle.run.specs.declared.RunAnswer.{RunAnswer}
@@ -28,8 +28,8 @@ outcomesOf policy trace table keeper = toldBy policy table keeper (keys keySize 
 abbrev pub endsOf : List ℕ → List ℕ → List ℕ → List ℕ → Ends
 endsOf policy trace table keeper = endsAfter policy table keeper (keys keySize trace)
 
--- all that a call shows: the answer, the totals, and the bytes of the three buffers
-pub record Shown : Type 0 where
+-- all that a call resultOf: the answer, the totals, and the bytes of the three buffers
+pub record RunResult : Type 0 where
   pub answer : RunAnswer
   pub totals : Totals
   pub table : List ℕ
@@ -37,9 +37,9 @@ pub record Shown : Type 0 where
   pub out : List ℕ
 
 -- a refusal leaves all as it was; else the totals advance, the ends are those of the model's run, and the outcomes go to the output's start
-abbrev pub shownOf : Option Refusal → List ℕ → List ℕ → List ℕ → List ℕ → List ℕ → Totals → Shown
-shownOf (some r) policy trace table keeper out t = record { answer = Refused r; totals = t; table = table; keeper = keeper; out = out }
-shownOf none policy trace table keeper out t =
+abbrev pub runResultOf : Option Refusal → List ℕ → List ℕ → List ℕ → List ℕ → List ℕ → Totals → RunResult
+runResultOf (some r) policy trace table keeper out t = record { answer = Refused r; totals = t; table = table; keeper = keeper; out = out }
+runResultOf none policy trace table keeper out t =
     record {
       answer = Packets (packetCount keySize trace);
       totals = totalsAfter t (outcomesOf policy trace table keeper);
@@ -48,18 +48,18 @@ shownOf none policy trace table keeper out t =
       out = splice 0 (spelled encodeOutcome (outcomesOf policy trace table keeper)) out;
     }
 
-unfoldable pub runOf : List ℕ → List ℕ → List ℕ → List ℕ → List ℕ → Totals → Shown
-runOf policy trace table keeper out t = shownOf (runRefusal policy trace table keeper (length out) t) policy trace table keeper out t
+unfoldable pub runOf : List ℕ → List ℕ → List ℕ → List ℕ → List ℕ → Totals → RunResult
+runOf policy trace table keeper out t = runResultOf (runRefusal policy trace table keeper (length out) t) policy trace table keeper out t
 
 -- the two ends after it
 abbrev pub endsLeft : Option Refusal → List ℕ → List ℕ → List ℕ → List ℕ → Ends
 endsLeft (some r) policy trace table keeper = endsIn table keeper
 endsLeft none policy trace table keeper = endsOf policy trace table keeper
 
-abbrev pub shows : Ran → List ℕ → List ℕ → List ℕ → Shown
-shows r table keeper out = record { answer = r .answer; totals = asTotals (r .totals); table = table; keeper = keeper; out = out }
+abbrev pub resultOf : Ran → List ℕ → List ℕ → List ℕ → RunResult
+resultOf r table keeper out = record { answer = r .answer; totals = asTotals (r .totals); table = table; keeper = keeper; out = out }
 
 -- what a run is, with r its answer and totals and the buffers after it: one equation, and what the two ends then mean
 pub record RunIs (policy trace table keeper out : List ℕ) (t : Totals) (r : Ran) (table′ keeper′ out′ : List ℕ) : Type 0 where
-  pub whole : shows r table′ keeper′ out′ ≡ runOf policy trace table keeper out t
+  pub whole : resultOf r table′ keeper′ out′ ≡ runOf policy trace table keeper out t
   pub meaning : endsIn table′ keeper′ ≡ endsLeft (runRefusal policy trace table keeper (length out) t) policy trace table keeper

@@ -14,8 +14,8 @@ use Rattle.records.specs.Rules.{ruleCount}
 use Rattle.records.specs.Traces.{packetCount}
 use Rattle.records.specs.SlotBuffers.{WholeSlots}
 use Rattle.records.specs.Outcomes.{encodeOutcome}
-use Rattle.miss.specs.Decided.{deciding}
-use Rattle.run.specs.Sending.{endsIn}
+use Rattle.miss.specs.Decision.{policyView}
+use Rattle.run.specs.Send.{endsIn}
 use Rattle.run.specs.Packets.{packetOutcome, packetEnds}
 
 -- as much as the steps need of a run's buffers; a run's refusals ask for more
@@ -34,10 +34,10 @@ pub record Stepped (policy key : List ℕ) (i : ℕ) (table keeper out : List �
 
 -- what a run of these keys tells, and what becomes of the two ends
 abbrev pub toldBy : List ℕ → List ℕ → List ℕ → List Key → List Outcome
-toldBy policy table keeper ks = outcomes positions (deciding policy) (endsIn table keeper) ks
+toldBy policy table keeper ks = outcomes positions (policyView policy) (endsIn table keeper) ks
 
 abbrev pub endsAfter : List ℕ → List ℕ → List ℕ → List Key → Ends
-endsAfter policy table keeper ks = trace positions (deciding policy) (endsIn table keeper) ks
+endsAfter policy table keeper ks = trace positions (policyView policy) (endsIn table keeper) ks
 
 -- these keys were run: the two ends, the outcomes' bytes at the start of the output, and the totals
 pub record RanOver (policy : List ℕ) (ks : List Key) (table keeper out : List ℕ) (t : Totals)

@@ -2,21 +2,21 @@
 use records::layout;
 use records::outcome::Outcome;
 ghost use Rattle.records.specs.Outcomes.{asOutcome};
-ghost use Rattle.run.specs.Packets.{FinePacket, Became, missedOutcome, missedEnds, packetOutcome, packetEnds};
+ghost use Rattle.run.specs.Packets.{FinePacket, PacketDone, missedOutcome, missedEnds, packetOutcome, packetEnds};
 
 // A miss goes to the keeper, and the write, where one is given, to the table.
 fn missed(policy: &[u8], key: &[u8], table: &mut [u8], keeper: &mut [u8]) -> Outcome
     requires { ⌜ FinePacket (now policy) (now key) (now table) (now keeper) ⌝ }
-    ensures { λ r. ⌜ Became (missedOutcome (now (policy .entry)) (now (key .entry)) (now (keeper .entry)))
+    ensures { λ r. ⌜ PacketDone (missedOutcome (now (policy .entry)) (now (key .entry)) (now (keeper .entry)))
         (missedEnds (now (policy .entry)) (now (key .entry)) (now (table .entry)) (now (keeper .entry)))
         (asOutcome r) (now (table .exit)) (now (keeper .exit)) ⌝ }
 {
-    let d = miss::decide::decide(policy, key, keeper);
+    let d = miss::decide::decide_miss(policy, key, keeper);
     let outcome = d.outcome;
     let write = d.write;
     if records::kinds::gives_write(outcome.outcome) {
-        miss::carry::place_entry(keeper, outcome.outcome, write);
-        crate::send::send(write, table, keeper);
+        miss::carry::put_new_entry(keeper, outcome.outcome, write);
+        crate::send::send_write(write, table, keeper);
     }
     outcome
 }
@@ -24,7 +24,7 @@ fn missed(policy: &[u8], key: &[u8], table: &mut [u8], keeper: &mut [u8]) -> Out
 // One packet: the table looks the key up; a hit's report goes to the keeper, and so does a miss. What an end refuses changes nothing there.
 pub fn one_packet(policy: &[u8], key: &[u8], table: &mut [u8], keeper: &mut [u8]) -> Outcome
     requires { ⌜ FinePacket (now policy) (now key) (now table) (now keeper) ⌝ }
-    ensures { λ r. ⌜ Became (packetOutcome (now (policy .entry)) (now (key .entry)) (now (table .entry)) (now (keeper .entry)))
+    ensures { λ r. ⌜ PacketDone (packetOutcome (now (policy .entry)) (now (key .entry)) (now (table .entry)) (now (keeper .entry)))
         (packetEnds (now (policy .entry)) (now (key .entry)) (now (table .entry)) (now (keeper .entry)))
         (asOutcome r) (now (table .exit)) (now (keeper .exit)) ⌝ }
 {

@@ -45,17 +45,17 @@ fn check_ends(table: &[u8], keeper: &[u8]) -> Parts
     Parts::Fine
 }
 
-// Whether a run is refused, with an output of `room` bytes: 1, 2 and 3 of the policy, those of the trace and of the two ends, 13, 5.
+// Whether a run is refused, with an output of `out_len` bytes: 1, 2 and 3 of the policy, those of the trace and of the two ends, 13, 5.
 pub fn check_run(
     policy: &[u8],
     trace: &[u8],
     table: &[u8],
     keeper: &[u8],
-    room: usize,
+    out_len: usize,
     totals: Totals,
 ) -> Parts
     ensures { λ r. ⌜ r ≡ partsOf (runRefusal (now (policy .entry)) (now (trace .entry)) (now (table .entry)) (now (keeper .entry))
-        room (asTotals totals)) ⌝ }
+        «out_len» (asTotals totals)) ⌝ }
 {
     if let policy::PolicyAnswer::Refused(refusal) = policy::check(policy) {
         return Parts::Refused(refusal);
@@ -69,7 +69,7 @@ pub fn check_run(
     if !totals::totals_fit(totals) {
         return refused(refusal::TOTALS_FULL);
     }
-    if room < layout::OUTCOME_SIZE * (trace.len() / layout::TRACE_SIZE) {
+    if out_len < layout::OUTCOME_SIZE * (trace.len() / layout::TRACE_SIZE) {
         return refused(refusal::SHORT_OUTPUT);
     }
     Parts::Fine

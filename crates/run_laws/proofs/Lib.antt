@@ -1,3 +1,3 @@
 -- Runs one after another.
-pub mod Accepted
+pub mod AcceptedRuns
 pub mod Promise

@@ -5,7 +5,7 @@ use Prim.Native.Nat.{ℕ, _+_, _*_}
 use native.Mathlib.Omega.{arith}
 use lib.ListN.{length, length-append}
 use Rattle.ends.specs.Records.{Totals}
-use Rattle.ends.specs.Ends.{Key, Decisions}
+use Rattle.ends.specs.Ends.{Key, PolicyView}
 use Rattle.ends.specs.Trace.{trace, outcomes}
 use Rattle.ends.specs.Totals.{totalsAfter, totalsOver, clearedTotals, Balanced}
 use Rattle.ends.proofs.Totals.{totals-law, balance-law, cut-law}
@@ -17,29 +17,29 @@ use Rattle.records.specs.Traces.{packetCount, keys, decodeTrace}
 use Rattle.end_records.specs.Slots.{encodeSlot}
 use Rattle.records.specs.Outcomes.{encodeOutcome}
 use Rattle.totals.specs.Sums.{asTotals}
-use Rattle.miss.specs.Decided.{deciding}
-use Rattle.run.specs.Sending.{endsIn}
+use Rattle.miss.specs.Decision.{policyView}
+use Rattle.run.specs.Send.{endsIn}
 use Rattle.run.proofs.RunLaws.{run-whole}
 use Rattle.run.specs.declared.RunAnswer.{RunAnswer}
 use Rattle.run.specs.declared.RunAnswer.the-variants.{Refused, Packets}
-use Rattle.run_laws.specs.Calls.{Call, Made, left, InTurn, lastOf, toldIn, TotalsPromise}
-use Rattle.run_laws.specs.Calls.{Part, callOf, Accepted, Successive, lastPart, joined, toldBytes, CutPromise}
-use Rattle.run_laws.proofs.Accepted.{AcceptedRun, accepted-run, refused-run, told-bytes, told-totals}
+use Rattle.run_laws.specs.Calls.{PastRun, Made, left, InTurn, lastOf, toldIn, TotalsPromise}
+use Rattle.run_laws.specs.Calls.{Part, pastRun, AcceptedPart, Successive, lastPart, joined, toldBytes, CutPromise}
+use Rattle.run_laws.proofs.AcceptedRuns.{AcceptedRun, accepted-run, refused-run, told-bytes, told-totals}
 
 -- ---- totals
 
-over : (t : Totals) (calls : List Call) → InTurn t calls → lastOf t calls ≡ totalsOver t (map toldIn calls)
+over : (t : Totals) (calls : List PastRun) → InTurn t calls → lastOf t calls ≡ totalsOver t (map toldIn calls)
 unfolding totalsOver
 over t [] is = refl
 over t (c ∷ cs) is = over (left c) cs (is .1) ∙ ap (λ (x : Totals). totalsOver x (map toldIn cs)) (told-totals t c (is .0) (c .ran .answer) refl)
 
-balanced-call : (t : Totals) (c : Call) → Made t c → (a : RunAnswer) → c .ran .answer ≡ a → Balanced t → Balanced (left c)
+balanced-call : (t : Totals) (c : PastRun) → Made t c → (a : RunAnswer) → c .ran .answer ≡ a → Balanced t → Balanced (left c)
 balanced-call t c is (Refused r) e h = subst Balanced (sym (refused-run t c is e)) h
 balanced-call t c is (Packets n) e h =
     subst Balanced (sym (accepted-run t c is e .sums))
-    (balance-law positions (deciding (c .policy)) (endsIn (c .table) (c .keeper)) (keys keySize (c .trace)) t h)
+    (balance-law positions (policyView (c .policy)) (endsIn (c .table) (c .keeper)) (keys keySize (c .trace)) t h)
 
-balanced-over : (t : Totals) (calls : List Call) → InTurn t calls → Balanced t → Balanced (lastOf t calls)
+balanced-over : (t : Totals) (calls : List PastRun) → InTurn t calls → Balanced t → Balanced (lastOf t calls)
 balanced-over t [] is h = h
 balanced-over t (c ∷ cs) is h = balanced-over (left c) cs (is .1) (balanced-call t c (is .0) (c .ran .answer) refl h)
 
@@ -62,8 +62,8 @@ module _ (xs ys : List ℕ) (whole : length xs ≡ traceSize keySize * packetCou
   cut-keys = rw cut-count (records-append (traceSize keySize) (decodeTrace keySize) (packetCount keySize xs) (packetCount keySize ys) xs ys whole)
 
 module _ (policy : List ℕ) where
-  abbrev p : Decisions
-  p = deciding policy
+  abbrev p : PolicyView
+  p = policyView policy
 
   -- told, left and summed up as by a run of those keys
   record RanAs (table keeper : List ℕ) (t : Totals) (ks : List Key) (told table′ keeper′ : List ℕ) (t′ : Totals) : Type 0 where
@@ -75,9 +75,9 @@ module _ (policy : List ℕ) where
   abbrev PartsRan : List ℕ → List ℕ → Totals → List ℕ → List ℕ → Part → Type 0
   PartsRan table keeper t bytes told x = RanAs table keeper t (keys keySize bytes) told (x .table′) (x .keeper′) (asTotals (x .ran .totals))
 
-  module _ (table keeper : List ℕ) (t : Totals) (x : Part) (is : Accepted policy table keeper t x) where
-    ran : AcceptedRun t (callOf policy table keeper x) (is .0)
-    ran = accepted-run t (callOf policy table keeper x) (is .2) (is .1)
+  module _ (table keeper : List ℕ) (t : Totals) (x : Part) (is : AcceptedPart policy table keeper t x) where
+    ran : AcceptedRun t (pastRun policy table keeper x) (is .0)
+    ran = accepted-run t (pastRun policy table keeper x) (is .2) (is .1)
 
     part-ran : PartsRan table keeper t (x .trace) (toldBytes x) x
     part-ran =

@@ -15,7 +15,7 @@ use Rattle.run.specs.declared.RunAnswer.the-variants.{Refused, Packets}
 use Rattle.run.specs.declared.Ran.{Ran}
 
 -- a call that was made: the buffers that it was lent, what it answered, and the buffers after it
-pub record Call : Type 0 where
+pub record PastRun : Type 0 where
   pub policy : List ℕ
   pub trace : List ℕ
   pub table : List ℕ
@@ -27,21 +27,21 @@ pub record Call : Type 0 where
   pub out′ : List ℕ
 
 -- from totals t the call did what the run promises
-abbrev pub Made : Totals → Call → Type 0
+abbrev pub Made : Totals → PastRun → Type 0
 Made t c = RunIs (c .policy) (c .trace) (c .table) (c .keeper) (c .out) t (c .ran) (c .table′) (c .keeper′) (c .out′)
 
 -- the totals after it
-abbrev pub left : Call → Totals
+abbrev pub left : PastRun → Totals
 left c = asTotals (c .ran .totals)
 
 -- ---- totals
 
 -- each call starts with the totals that the one before it left; policies and ends may be any
-abbrev pub InTurn : Totals → List Call → Type 0
+abbrev pub InTurn : Totals → List PastRun → Type 0
 InTurn t [] = Unit {0}
 InTurn t (c ∷ cs) = Made t c × InTurn (left c) cs
 
-abbrev pub lastOf : Totals → List Call → Totals
+abbrev pub lastOf : Totals → List PastRun → Totals
 lastOf t [] = t
 lastOf t (c ∷ cs) = lastOf (left c) cs
 
@@ -50,16 +50,16 @@ abbrev pub outcomesIn : RunAnswer → List ℕ → List Outcome
 outcomesIn (Refused r) out = []
 outcomesIn (Packets n) out = recordsIn outcomeSize decodeOutcome n out
 
-abbrev pub toldIn : Call → List Outcome
+abbrev pub toldIn : PastRun → List Outcome
 toldIn c = outcomesIn (c .ran .answer) (c .out′)
 
 -- from cleared totals each total is the count of its outcomes in the outputs of all accepted runs, and packets = hits + misses + no rule
-pub record Tallied (calls : List Call) (t : Totals) : Type 0 where
+pub record Tallied (calls : List PastRun) (t : Totals) : Type 0 where
   pub counts : CountsOf (flatten (map toldIn calls)) t
   pub balanced : Balanced t
 
 abbrev pub TotalsPromise : Type 0
-TotalsPromise = (calls : List Call) → InTurn clearedTotals calls → Tallied calls (lastOf clearedTotals calls)
+TotalsPromise = (calls : List PastRun) → InTurn clearedTotals calls → Tallied calls (lastOf clearedTotals calls)
 
 -- ---- a trace cut into parts
 
@@ -72,8 +72,8 @@ pub record Part : Type 0 where
   pub keeper′ : List ℕ
   pub out′ : List ℕ
 
-abbrev pub callOf : List ℕ → List ℕ → List ℕ → Part → Call
-callOf policy table keeper x =
+abbrev pub pastRun : List ℕ → List ℕ → List ℕ → Part → PastRun
+pastRun policy table keeper x =
     record {
       policy = policy;
       trace = x .trace;
@@ -87,14 +87,14 @@ callOf policy table keeper x =
     }
 
 -- with that policy, from those ends and totals, the call did what the run promises, and was accepted
-abbrev pub Accepted : List ℕ → List ℕ → List ℕ → Totals → Part → Type 0
-Accepted policy table keeper t x = (count : ℕ) × (x .ran .answer ≡ Packets count) × Made t (callOf policy table keeper x)
+abbrev pub AcceptedPart : List ℕ → List ℕ → List ℕ → Totals → Part → Type 0
+AcceptedPart policy table keeper t x = (count : ℕ) × (x .ran .answer ≡ Packets count) × Made t (pastRun policy table keeper x)
 
 -- calls in succession: each goes on with the ends and the totals that the one before it left
 abbrev pub Successive : List ℕ → List ℕ → List ℕ → Totals → List Part → Type 0
 Successive policy table keeper t [] = Unit {0}
 Successive policy table keeper t (x ∷ xs) =
-    Accepted policy table keeper t x × Successive policy (x .table′) (x .keeper′) (asTotals (x .ran .totals)) xs
+    AcceptedPart policy table keeper t x × Successive policy (x .table′) (x .keeper′) (asTotals (x .ran .totals)) xs
 
 abbrev pub lastPart : Part → List Part → Part
 lastPart x [] = x
@@ -122,5 +122,5 @@ pub record SameRun (whole first : Part) (more : List Part) : Type 0 where
 -- a trace that is accepted whole, cut between records into parts that are each accepted in succession
 abbrev pub CutPromise : Type 0
 CutPromise = (policy table keeper : List ℕ) (t : Totals) (whole first : Part) (more : List Part)
-    → Accepted policy table keeper t whole → Successive policy table keeper t (first ∷ more) → whole .trace ≡ joined (first ∷ more)
+    → AcceptedPart policy table keeper t whole → Successive policy table keeper t (first ∷ more) → whole .trace ≡ joined (first ∷ more)
     → SameRun whole first more

@@ -14,26 +14,26 @@ use Rattle.checks.specs.declared.refusal.Refusal.{Refusal}
 use Rattle.end_records.specs.Slots.{slots}
 use Rattle.records.specs.SlotBuffers.{slotCount}
 use Rattle.end_records.proofs.SlotLaws.{slot-count}
-use Rattle.policy.specs.Parts.{partsRefusal}
+use Rattle.policy.specs.Lent.{lentRefusal}
 use Rattle.policy.proofs.BestLaws.{best-below}
-use Rattle.show.specs.Answers.{shownIn, answerOf, showAnswer}
+use Rattle.show.specs.Answers.{shownIn, showAnswerOf, showAnswer}
 use Rattle.show.specs.declared.ShowAnswer.the-variants.{NoRule, FromTable, FromPolicy}
 
 -- ---- from the answer to the record
 
-of-slot : (o : Option Refusal) (x : Shown) (i : ℕ) → answerOf o x ≡ FromTable i → (o ≡ none) × (x ≡ slotShown i)
+of-slot : (o : Option Refusal) (x : Shown) (i : ℕ) → showAnswerOf o x ≡ FromTable i → (o ≡ none) × (x ≡ slotShown i)
 of-slot (some r) x i e = let z : _≡_ {A = ℕ} 0 1 = cc in absurd (omega arith)
 of-slot none (slotShown k) i e = (refl, cc)
 of-slot none (ruleShown k) i e = let z : _≡_ {A = ℕ} 0 1 = cc in absurd (omega arith)
 of-slot none nothingShown i e = let z : _≡_ {A = ℕ} 0 1 = cc in absurd (omega arith)
 
-of-rule : (o : Option Refusal) (x : Shown) (i : ℕ) → answerOf o x ≡ FromPolicy i → (o ≡ none) × (x ≡ ruleShown i)
+of-rule : (o : Option Refusal) (x : Shown) (i : ℕ) → showAnswerOf o x ≡ FromPolicy i → (o ≡ none) × (x ≡ ruleShown i)
 of-rule (some r) x i e = let z : _≡_ {A = ℕ} 0 1 = cc in absurd (omega arith)
 of-rule none (slotShown k) i e = let z : _≡_ {A = ℕ} 0 1 = cc in absurd (omega arith)
 of-rule none (ruleShown k) i e = (refl, cc)
 of-rule none nothingShown i e = let z : _≡_ {A = ℕ} 0 1 = cc in absurd (omega arith)
 
-of-neither : (o : Option Refusal) (x : Shown) → answerOf o x ≡ NoRule → (o ≡ none) × (x ≡ nothingShown)
+of-neither : (o : Option Refusal) (x : Shown) → showAnswerOf o x ≡ NoRule → (o ≡ none) × (x ≡ nothingShown)
 of-neither (some r) x e = let z : _≡_ {A = ℕ} 0 1 = cc in absurd (omega arith)
 of-neither none (slotShown k) e = let z : _≡_ {A = ℕ} 0 1 = cc in absurd (omega arith)
 of-neither none (ruleShown k) e = let z : _≡_ {A = ℕ} 0 1 = cc in absurd (omega arith)
@@ -42,22 +42,22 @@ of-neither none nothingShown e = (refl, refl)
 module _ (policy key table : List ℕ) where
   -- a record that is shown: none of the arguments is refused, and the model shows it
   pub table-shown : (i : ℕ) → showAnswer policy key table ≡ FromTable i
-      → (partsRefusal policy key table ≡ none) × (shownIn policy key table ≡ slotShown i)
+      → (lentRefusal policy key table ≡ none) × (shownIn policy key table ≡ slotShown i)
   unfolding showAnswer
-  table-shown i e = of-slot (partsRefusal policy key table) (shownIn policy key table) i e
+  table-shown i e = of-slot (lentRefusal policy key table) (shownIn policy key table) i e
 
   pub policy-shown : (r : ℕ) → showAnswer policy key table ≡ FromPolicy r
-      → (partsRefusal policy key table ≡ none) × (shownIn policy key table ≡ ruleShown r)
+      → (lentRefusal policy key table ≡ none) × (shownIn policy key table ≡ ruleShown r)
   unfolding showAnswer
-  policy-shown r e = of-rule (partsRefusal policy key table) (shownIn policy key table) r e
+  policy-shown r e = of-rule (lentRefusal policy key table) (shownIn policy key table) r e
 
   pub nothing-shown : showAnswer policy key table ≡ NoRule → shownIn policy key table ≡ nothingShown
   unfolding showAnswer
-  nothing-shown e = of-neither (partsRefusal policy key table) (shownIn policy key table) e .1
+  nothing-shown e = of-neither (lentRefusal policy key table) (shownIn policy key table) e .1
 
   -- ---- from the tests to the answer
 
-  module _ (fine : partsRefusal policy key table ≡ none) where
+  module _ (fine : lentRefusal policy key table ≡ none) where
     pub says-slot : (i : ℕ) → firstFor positions (slots keySize table) key ≡ some i → FromTable i ≡ showAnswer policy key table
     unfolding showAnswer shown
     says-slot i e = rw (fine, e)

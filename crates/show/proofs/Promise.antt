@@ -11,13 +11,13 @@ use Rattle.buffers.proofs.PartLaws.{part-length}
 use Rattle.records.specs.Layout.{ruleSize, slotSize}
 use Rattle.records.specs.Rules.{rules}
 use Rattle.end_records.specs.Slots.{slots}
-use Rattle.policy.specs.Parts.{partsRefusal}
+use Rattle.policy.specs.Lent.{lentRefusal}
 use Rattle.show.specs.Answers.{shownIn, showAnswer, shownPart}
 use Rattle.show.specs.Promise.{DecidesLaw, WholePart}
 use Rattle.show.specs.declared.ShowAnswer.the-variants.{NoRule, FromTable, FromPolicy}
 use Rattle.show.proofs.AnswerLaws.{table-shown, policy-shown, nothing-shown, table-below, policy-below}
 
-module _ (policy key table : List ℕ) (fine : partsRefusal policy key table ≡ none) where
+module _ (policy key table : List ℕ) (fine : lentRefusal policy key table ≡ none) where
   slot-here : (i : ℕ) → shownIn policy key table ≡ slotShown i → showAnswer policy key table ≡ FromTable i
   unfolding showAnswer
   slot-here i e = rw (fine, e)

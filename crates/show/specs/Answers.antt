@@ -9,7 +9,7 @@ use Rattle.records.specs.Layout.{ruleSize, slotSize}
 use Rattle.records.specs.Rules.{rules}
 use Rattle.checks.specs.declared.refusal.Refusal.{Refusal}
 use Rattle.end_records.specs.Slots.{slots}
-use Rattle.policy.specs.Parts.{partsRefusal}
+use Rattle.policy.specs.Lent.{lentRefusal}
 use Rattle.show.specs.declared.ShowAnswer.{ShowAnswer}
 use Rattle.show.specs.declared.ShowAnswer.the-variants.{Refused, NoRule, FromTable, FromPolicy}
 
@@ -18,14 +18,14 @@ abbrev pub shownIn : List ℕ → List ℕ → List ℕ → Shown
 shownIn policy key table = shown positions (rules keySize policy) (slots keySize table) key
 
 -- the refusal (policy 1, 2, 3; key 1; table 4), or which record is shown
-abbrev pub answerOf : Option Refusal → Shown → ShowAnswer
-answerOf (some r) x = Refused r
-answerOf none (slotShown i) = FromTable i
-answerOf none (ruleShown r) = FromPolicy r
-answerOf none nothingShown = NoRule
+abbrev pub showAnswerOf : Option Refusal → Shown → ShowAnswer
+showAnswerOf (some r) x = Refused r
+showAnswerOf none (slotShown i) = FromTable i
+showAnswerOf none (ruleShown r) = FromPolicy r
+showAnswerOf none nothingShown = NoRule
 
 unfoldable pub showAnswer : List ℕ → List ℕ → List ℕ → ShowAnswer
-showAnswer policy key table = answerOf (partsRefusal policy key table) (shownIn policy key table)
+showAnswer policy key table = showAnswerOf (lentRefusal policy key table) (shownIn policy key table)
 
 -- the part that an answer names: the slot's bytes of the table, the rule's of the policy, or the empty part
 abbrev pub partOf : List ℕ → List ℕ → ShowAnswer → List ℕ

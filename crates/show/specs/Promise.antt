@@ -11,7 +11,7 @@ use Rattle.ternary.specs.Sizes.{keySize, positions}
 use Rattle.records.specs.Layout.{ruleSize, slotSize}
 use Rattle.records.specs.Rules.{rules}
 use Rattle.end_records.specs.Slots.{slots}
-use Rattle.policy.specs.Parts.{partsRefusal}
+use Rattle.policy.specs.Lent.{lentRefusal}
 use Rattle.show.specs.Answers.{showAnswer, shownPart}
 use Rattle.show.specs.declared.ShowAnswer.the-variants.{NoRule, FromTable, FromPolicy}
 
@@ -25,7 +25,7 @@ pub record Decides (policy key table : List ℕ) : Type 0 where
 
 -- for arguments that are not refused
 abbrev pub DecidesLaw : Type 0
-DecidesLaw = (policy key table : List ℕ) → partsRefusal policy key table ≡ none → Decides policy key table
+DecidesLaw = (policy key table : List ℕ) → lentRefusal policy key table ≡ none → Decides policy key table
 
 -- the part is a whole slot, a whole rule, or empty, so its length alone says which buffer it is of
 pub record WholePart (policy key table : List ℕ) : Type 0 where

@@ -17,10 +17,10 @@ pub enum ShowAnswer {
 pub fn show_answer(policy: &[u8], key: &[u8], table: &[u8]) -> ShowAnswer
     ensures { λ r. ⌜ r ≡ showAnswer (now (policy .entry)) (now (key .entry)) (now (table .entry)) ⌝ }
 {
-    if let Parts::Refused(refusal) = policy::lent::check_parts(policy, key, table) {
+    if let Parts::Refused(refusal) = policy::lent::check_lent(policy, key, table) {
         return ShowAnswer::Refused(refusal);
     }
-    if let slots::find::Holding::At(i) = slots::find::first_holding(table, key) {
+    if let slots::find::SlotFound::At(i) = slots::find::first_slot_for(table, key) {
         return ShowAnswer::FromTable(i as u16);
     }
     match policy::search::best_rule(policy, key) {

@@ -1,17 +1,17 @@
 // What a miss asks of the keeper's slots: the largest sequence, and the slot for a new entry.
-use crate::find::Holding;
+use crate::find::SlotFound;
 use buffers::larger;
 use end_records::fields;
 use records::layout;
 ghost use mathlib.Core.Path.{_≡_};
 ghost use Prim.Native.Nat.{_<_};
 ghost use Rattle.ends.specs.Records.{slotAt};
-ghost use Rattle.ends.specs.Ends.{largest, givenUpBefore, givenUp, roomIn};
+ghost use Rattle.ends.specs.Ends.{largest, givenUpBefore, givenUp, slotForEntry};
 ghost use Rattle.ternary.specs.Sizes.{keySize};
 ghost use Rattle.end_records.specs.Slots.{slots};
 ghost use Rattle.records.specs.SlotBuffers.{slotCount};
-ghost use Rattle.slots.specs.Holding.{holdingOf};
-ghost use Rattle.slots.specs.Room.{firstEmpty};
+ghost use Rattle.slots.specs.Find.{slotFoundOf};
+ghost use Rattle.slots.specs.Choose.{firstEmpty};
 
 // The largest sequence in the keeper.
 pub fn largest_sequence(keeper: &[u8]) -> u32
@@ -28,18 +28,18 @@ pub fn largest_sequence(keeper: &[u8]) -> u32
 }
 
 // The lowest empty slot.
-fn first_empty(keeper: &[u8]) -> Holding
-    ensures { λ r. ⌜ r ≡ holdingOf (firstEmpty (slots keySize (now (keeper .entry)))) ⌝ }
+fn first_empty(keeper: &[u8]) -> SlotFound
+    ensures { λ r. ⌜ r ≡ slotFoundOf (firstEmpty (slots keySize (now (keeper .entry)))) ⌝ }
 {
     let n = keeper.len() / layout::SLOT_SIZE;
     let mut i = 0;
     while i < n {
         if fields::sequence_at(keeper, i) == 0 {
-            return Holding::At(i);
+            return SlotFound::At(i);
         }
         i += 1;
     }
-    Holding::Nowhere
+    SlotFound::Nowhere
 }
 
 // Whether slot a is given up before slot b: fewer hits, or as many and a smaller sequence.
@@ -76,12 +76,12 @@ fn given_up(keeper: &[u8]) -> usize
 }
 
 // The slot for a new entry: the lowest empty one, else the one that is given up first.
-pub fn room(keeper: &[u8]) -> usize
+pub fn slot_for_entry(keeper: &[u8]) -> usize
     requires { ⌜ 0 < slotCount keySize (now keeper) ⌝ }
-    ensures { λ r. ⌜ r ≡ roomIn (slots keySize (now (keeper .entry))) ⌝ }
+    ensures { λ r. ⌜ r ≡ slotForEntry (slots keySize (now (keeper .entry))) ⌝ }
 {
     match first_empty(keeper) {
-        Holding::At(i) => i,
-        Holding::Nowhere => given_up(keeper),
+        SlotFound::At(i) => i,
+        SlotFound::Nowhere => given_up(keeper),
     }
 }

@@ -40,7 +40,7 @@ pub fn put_entry(end: &mut [u8], w: Write) -> Slot
 }
 
 // Stores a write in its slot of a table if its sequence is greater than the slot's, and gives the slot as it then is.
-pub fn store(table: &mut [u8], w: Write) -> Slot
+pub fn store_newer(table: &mut [u8], w: Write) -> Slot
     requires { ⌜ asWrite w .slot < slotCount keySize (now table) ⌝ }
     ensures { λ r. ⌜ Stored (now (table .entry)) (asWrite w) (asSlot r) (now (table .exit)) ⌝ }
 {

@@ -8,7 +8,7 @@ ghost use Rattle.ends.specs.Ends.{holds, firstFor};
 ghost use Rattle.ternary.specs.Sizes.{keySize, positions};
 ghost use Rattle.end_records.specs.Slots.{slots};
 ghost use Rattle.records.specs.SlotBuffers.{slotCount};
-ghost use Rattle.slots.specs.Holding.{holdingOf};
+ghost use Rattle.slots.specs.Find.{slotFoundOf};
 
 // Whether the i-th slot of an end is not empty and takes the key.
 pub fn slot_holds(s: &[u8], i: usize, key: &[u8]) -> bool
@@ -28,23 +28,23 @@ pub fn slot_holds(s: &[u8], i: usize, key: &[u8]) -> bool
 }
 
 // The lowest slot that takes a key, or that there is none.
-pub enum Holding {
+pub enum SlotFound {
     Nowhere,
     At(usize),
 }
 
 // The lowest slot of an end that is not empty and takes the key.
-pub fn first_holding(s: &[u8], key: &[u8]) -> Holding
+pub fn first_slot_for(s: &[u8], key: &[u8]) -> SlotFound
     requires { ⌜ length (now key) ≡ keySize ⌝ }
-    ensures { λ r. ⌜ r ≡ holdingOf (firstFor positions (slots keySize (now (s .entry))) (now (key .entry))) ⌝ }
+    ensures { λ r. ⌜ r ≡ slotFoundOf (firstFor positions (slots keySize (now (s .entry))) (now (key .entry))) ⌝ }
 {
     let n = s.len() / layout::SLOT_SIZE;
     let mut i = 0;
     while i < n {
         if slot_holds(s, i, key) {
-            return Holding::At(i);
+            return SlotFound::At(i);
         }
         i += 1;
     }
-    Holding::Nowhere
+    SlotFound::Nowhere
 }

@@ -13,7 +13,7 @@ ghost use Rattle.slots.specs.Hits.{Counted};
 fn counted(x: Slot) -> Slot
     ensures { λ r. ⌜ asSlot r ≡ oneMore (asSlot x) ⌝ }
 {
-    if x.hits == layout::TOP {
+    if x.hits == layout::MOST_HITS {
         return x;
     }
     let value = x.value;
@@ -31,7 +31,7 @@ fn counted(x: Slot) -> Slot
 }
 
 // Counts a hit in the i-th slot of a table, and gives the slot as it then is. Its hits alone are written.
-pub fn count(table: &mut [u8], i: usize) -> Slot
+pub fn count_hit(table: &mut [u8], i: usize) -> Slot
     requires { ⌜ i < slotCount keySize (now table) ⌝ }
     ensures { λ r. ⌜ Counted (now (table .entry)) i (asSlot r) (now (table .exit)) ⌝ }
 {

@@ -1,4 +1,4 @@
-// What the two ends do with slots: find one for a key, store an entry, count a hit, settle, find room for a new entry.
+// What the two ends do with slots: find one for a key, store an entry, count a hit, settle, choose the slot for a new entry.
 pub mod choose;
 pub mod entry;
 pub mod find;

@@ -9,7 +9,7 @@ ghost use Rattle.ternary.specs.Sizes.{keySize};
 ghost use Rattle.records.specs.SlotBuffers.{slotCount};
 ghost use Rattle.end_records.specs.SlotStructs.{asSlot};
 ghost use Rattle.end_records.specs.MessageStructs.{asReport};
-ghost use Rattle.slots.specs.Settling.{ReportTaken};
+ghost use Rattle.slots.specs.Settle.{ReportTaken};
 
 // The slot once its hits are confirmed: settled, with the larger number of hits.
 fn confirmed_slot(old: Slot, hits: u32) -> Slot

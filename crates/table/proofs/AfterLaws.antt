@@ -19,7 +19,7 @@ use Rattle.end_records.specs.Slots.{slots, putSlot}
 use Rattle.records.specs.SlotBuffers.{slotCount, WholeSlots}
 use Rattle.end_records.proofs.SlotLaws.{slot-at, length-put-slot, slots-put}
 use Rattle.end_records.proofs.ByteSlots.{ByteSlot, slot-byte, counted-byte, put-bytes}
-use Rattle.slots.proofs.HoldingLaws.{held-below}
+use Rattle.slots.proofs.FindLaws.{held-below}
 use Rattle.end_records.specs.Writes.{decodeWrite}
 use Rattle.table.specs.Lookups.{lookupRefusal, countedBytes, slotsAfterLookup, tableAfterLookup}
 use Rattle.table.specs.Writes.{writeCallRefusal, slotsAfterWrite, tableAfterWrite}
@@ -56,23 +56,23 @@ module _ (table : List ℕ) (h : Bytes table) where
 
   -- ---- after a lookup
 
-  module _ (key : List ℕ) (room : ℕ) where
-    after-found : (o : Option Refusal) (f : Option ℕ) → lookupRefusal key table room ≡ o → firstFor positions (slots keySize table) key ≡ f
+  module _ (key : List ℕ) (outLen : ℕ) where
+    after-found : (o : Option Refusal) (f : Option ℕ) → lookupRefusal key table outLen ≡ o → firstFor positions (slots keySize table) key ≡ f
         → Became table (unlessRefused o (slots keySize table) (countedAt (slots keySize table) f))
         (unlessRefused o table (countedBytes table f))
     after-found (some r) f e k = same
     after-found none none e k = same
     after-found none (some i) e k =
         let l = held-below table key i k in
-        replaced (lookup-whole key table room e) i _ l (counted-there (lookup-whole key table room e) i l)
+        replaced (lookup-whole key table outLen e) i _ l (counted-there (lookup-whole key table outLen e) i l)
 
-    pub after-lookup : Became table (slotsAfterLookup key table room) (tableAfterLookup key table room)
+    pub after-lookup : Became table (slotsAfterLookup key table outLen) (tableAfterLookup key table outLen)
     unfolding slotsAfterLookup tableAfterLookup afterLookup
-    after-lookup = after-found (lookupRefusal key table room) (firstFor positions (slots keySize table) key) refl refl
+    after-lookup = after-found (lookupRefusal key table outLen) (firstFor positions (slots keySize table) key) refl refl
 
   -- ---- after a write
 
-  module _ (m : List ℕ) (b : Bytes m) (room : ℕ) where
+  module _ (m : List ℕ) (b : Bytes m) (outLen : ℕ) where
     written-there : length m ≡ writeSize keySize → ByteSlot keySize (written (entryIn (decodeWrite keySize m)))
     unfolding decodeWrite
     written-there l =
@@ -91,7 +91,7 @@ module _ (table : List ℕ) (h : Bytes table) where
           spare-byte = omega arith;
         }
 
-    after-newer : (o : Option Refusal) (newer : Bool) → writeCallRefusal table m room ≡ o
+    after-newer : (o : Option Refusal) (newer : Bool) → writeCallRefusal table m outLen ≡ o
         → let w = decodeWrite keySize m in
         let new = cond newer (set (slots keySize table) (w .slot) (written (entryIn w))) (slots keySize table) in
         let bytes = cond newer (putSlot keySize table (w .slot) (written (entryIn w))) table in
@@ -99,9 +99,9 @@ module _ (table : List ℕ) (h : Bytes table) where
     after-newer (some r) newer e = same
     after-newer none false e = same
     after-newer none true e =
-        let g = good-call table m room .0 e in
+        let g = good-call table m outLen .0 e in
         replaced (g .whole) (decodeWrite keySize m .slot) _ (g .good .slot-there) (written-there (g .good .long))
 
-    pub after-write : Became table (slotsAfterWrite table m room) (tableAfterWrite table m room)
+    pub after-write : Became table (slotsAfterWrite table m outLen) (tableAfterWrite table m outLen)
     unfolding slotsAfterWrite tableAfterWrite afterWrite
-    after-write = after-newer (writeCallRefusal table m room) (isNewer (slots keySize table) (decodeWrite keySize m)) refl
+    after-write = after-newer (writeCallRefusal table m outLen) (isNewer (slots keySize table) (decodeWrite keySize m)) refl

@@ -20,10 +20,10 @@ use Rattle.records.specs.SlotBuffers.{slotCount, WholeSlots}
 use Rattle.checks.specs.BufferRefusals.{slotsRefusal}
 use Rattle.end_records.proofs.SlotLaws.{slot-at}
 use Rattle.checks.proofs.FitLaws.{slots-accepted}
-use Rattle.slots.proofs.HoldingLaws.{held-below, held-few}
+use Rattle.slots.proofs.FindLaws.{held-below, held-few}
 use Rattle.slots.specs.Hits.{Counted}
 use Rattle.end_records.specs.Reports.{encodeReport}
-use Rattle.table.specs.Lookups.{roomRefusal, lookupRefusal, foundOf, findAnswer}
+use Rattle.table.specs.Lookups.{shortForReport, lookupRefusal, foundOf, findAnswer}
 use Rattle.table.specs.Lookups.{lookupAnswer, slotsAfterLookup, tableAfterLookup, outAfterLookup, LookedUp}
 use Rattle.table.specs.declared.lookups.Found.the-variants.{Refused as FoundRefused, Miss as FoundMiss, Slot as FoundSlot}
 use Rattle.table.specs.declared.LookupAnswer.the-variants.{Refused, Miss, Hit}
@@ -45,24 +45,24 @@ of-slot (some x) f i e = let z : _≡_ {A = ℕ} 0 1 = cc in absurd (omega arith
 of-slot none none i e = let z : _≡_ {A = ℕ} 0 1 = cc in absurd (omega arith)
 of-slot none (some k) i e = (refl, cc)
 
-module _ (key table : List ℕ) (room : ℕ) where
+module _ (key table : List ℕ) (outLen : ℕ) where
   -- a lookup that is not refused has a buffer of whole slots
-  pub lookup-whole : lookupRefusal key table room ≡ none → WholeSlots table
+  pub lookup-whole : lookupRefusal key table outLen ≡ none → WholeSlots table
   unfolding lookupRefusal
   lookup-whole e =
       slots-accepted table .0 (none-first (slotsRefusal table) _ (none-first (keyRefusal key) _ e .1) .0)
 
   -- and, on a hit, room for a report
-  pub hit-room : (i : ℕ) → lookupRefusal key table room ≡ none → firstFor positions (slots keySize table) key ≡ some i → reportSize ≤ room
+  pub hit-long : (i : ℕ) → lookupRefusal key table outLen ≡ none → firstFor positions (slots keySize table) key ≡ some i → reportSize ≤ outLen
   unfolding lookupRefusal
-  hit-room i e f =
-      let h : roomRefusal room ≡ none = rw f at (none-first (slotsRefusal table) _ (none-first (keyRefusal key) _ e .1) .1) in
-      leb-true reportSize room (need-none (leb reportSize room) _ none h .0)
+  hit-long i e f =
+      let h : shortForReport outLen ≡ none = rw f at (none-first (slotsRefusal table) _ (none-first (keyRefusal key) _ e .1) .1) in
+      leb-true reportSize outLen (need-none (leb reportSize outLen) _ none h .0)
 
-  module _ (i : ℕ) (e : FoundSlot i ≡ findAnswer key table room) where
-    hit-there : (lookupRefusal key table room ≡ none) × (firstFor positions (slots keySize table) key ≡ some i)
+  module _ (i : ℕ) (e : FoundSlot i ≡ findAnswer key table outLen) where
+    hit-there : (lookupRefusal key table outLen ≡ none) × (firstFor positions (slots keySize table) key ≡ some i)
     unfolding findAnswer
-    hit-there = of-slot (lookupRefusal key table room) (firstFor positions (slots keySize table) key) i e
+    hit-there = of-slot (lookupRefusal key table outLen) (firstFor positions (slots keySize table) key) i e
 
     -- the slot that is found is one of the table, and the output has room for its report
     pub hit-below : i < slotCount keySize table
@@ -71,8 +71,8 @@ module _ (key table : List ℕ) (room : ℕ) where
     pub hit-few : i < mostSlots
     hit-few = held-few table key i (hit-there .1) (lookup-whole (hit-there .0))
 
-    pub hit-fits : reportSize ≤ room
-    hit-fits = hit-room i (hit-there .0) (hit-there .1)
+    pub hit-fits : reportSize ≤ outLen
+    hit-fits = hit-long i (hit-there .0) (hit-there .1)
 
 -- ---- the call
 

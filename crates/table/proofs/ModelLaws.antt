@@ -25,13 +25,13 @@ use Rattle.end_records.proofs.SlotLaws.{slot-count}
 use Rattle.checks.proofs.FitLaws.{slots-accepted}
 use Rattle.end_records.specs.Writes.{decodeWrite}
 use Rattle.end_records.specs.Reports.{encodeReport}
-use Rattle.table.specs.Lookups.{hitRefusal, lookupRefusal, GoodLookup, answerOf, toldOf}
+use Rattle.table.specs.Lookups.{hitRefusal, lookupRefusal, GoodLookup, lookupAnswerOf, toldOf}
 use Rattle.table.specs.Lookups.{lookupAnswer, slotsAfterLookup, outAfterLookup, LookedUp}
 use Rattle.table.specs.Writes.{writeCallRefusal, GoodWrite, slotsAfterWrite, outAfterWrite, Received}
 use Rattle.table.specs.declared.LookupAnswer.{LookupAnswer}
 use Rattle.table.specs.declared.WriteAnswer.{WriteAnswer}
 use Rattle.table.specs.declared.WriteAnswer.the-variants.{Taken}
-use Rattle.table.proofs.LookupLaws.{lookup-whole, hit-room}
+use Rattle.table.proofs.LookupLaws.{lookup-whole, hit-long}
 use Rattle.table.proofs.WriteLaws.{good-call}
 
 module _ (table m : List ℕ) where
@@ -61,32 +61,32 @@ module _ (table m : List ℕ) where
       }
 
   -- so a call on whole slots, with room for the report, is refused exactly as the model says
-  pub taken-here : (room : ℕ) → WholeSlots table → length m ≡ writeSize keySize → getD m writeKind 0 ≡ isWrite → Zeros (writeSpares keySize) m
-      → writeRefusal positions (slots keySize table) (decodeWrite keySize m) ≡ none → reportSize ≤ room → writeCallRefusal table m room ≡ none
-  taken-here room whole l k z e fits = good-call table m room .1 (record { whole = whole; good = good-here l k z e; fits = fits })
+  pub taken-here : (outLen : ℕ) → WholeSlots table → length m ≡ writeSize keySize → getD m writeKind 0 ≡ isWrite → Zeros (writeSpares keySize) m
+      → writeRefusal positions (slots keySize table) (decodeWrite keySize m) ≡ none → reportSize ≤ outLen → writeCallRefusal table m outLen ≡ none
+  taken-here outLen whole l k z e fits = good-call table m outLen .1 (record { whole = whole; good = good-here l k z e; fits = fits })
 
-  pub taken-there : (room : ℕ) → writeCallRefusal table m room ≡ none → writeRefusal positions (slots keySize table) (decodeWrite keySize m) ≡ none
-  taken-there room e = good-there (good-call table m room .0 e .good)
+  pub taken-there : (outLen : ℕ) → writeCallRefusal table m outLen ≡ none → writeRefusal positions (slots keySize table) (decodeWrite keySize m) ≡ none
+  taken-there outLen e = good-there (good-call table m outLen .0 e .good)
 
 -- ---- which lookups are not refused
 
-room-for : (f : Option ℕ) (room : ℕ) → ((i : ℕ) → f ≡ some i → reportSize ≤ room) → hitRefusal f room ≡ none
-room-for none room h = refl
-room-for (some i) room h = rw (le-leb reportSize room (h i refl))
+long-enough : (f : Option ℕ) (outLen : ℕ) → ((i : ℕ) → f ≡ some i → reportSize ≤ outLen) → hitRefusal f outLen ≡ none
+long-enough none outLen h = refl
+long-enough (some i) outLen h = rw (le-leb reportSize outLen (h i refl))
 
-pub good-lookup : (key table : List ℕ) (room : ℕ) → (lookupRefusal key table room ≡ none) ↔ GoodLookup key table room
+pub good-lookup : (key table : List ℕ) (outLen : ℕ) → (lookupRefusal key table outLen ≡ none) ↔ GoodLookup key table outLen
 unfolding lookupRefusal keyRefusal
-good-lookup key table room = (
+good-lookup key table outLen = (
   λ e.
       record {
         long = key-accepted key (none-first (keyRefusal key) _ e .0);
-        whole = lookup-whole key table room e;
-        fits = λ i f. hit-room key table room i e f;
+        whole = lookup-whole key table outLen e;
+        fits = λ i f. hit-long key table outLen i e f;
       },
   λ h. rw (
     eq-eqb (length key) keySize (h .long),
     slots-accepted table .1 (h .whole),
-    room-for (firstFor positions (slots keySize table) key) room (h .fits),
+    long-enough (firstFor positions (slots keySize table) key) outLen (h .fits),
   ),
 )
 
@@ -94,7 +94,7 @@ good-lookup key table room = (
 
 module _ {key table out table′ out′ : List ℕ} {r : LookupAnswer} (is : LookedUp key table out r table′ out′) where
   pub looked-up : lookupRefusal key table (length out) ≡ none
-      → (r ≡ answerOf none (lookup positions (slots keySize table) key)) × (slots keySize table′ ≡ afterLookup positions (slots keySize table) key)
+      → (r ≡ lookupAnswerOf none (lookup positions (slots keySize table) key)) × (slots keySize table′ ≡ afterLookup positions (slots keySize table) key)
       × (out′ ≡ toldOf (lookup positions (slots keySize table) key) out)
   unfolding lookupAnswer slotsAfterLookup outAfterLookup
   looked-up e = (rw e at (is .answer), rw e at (is .meaning), rw e at (is .told))

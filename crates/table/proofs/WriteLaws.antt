@@ -68,8 +68,8 @@ module _ (m : List ℕ) (count : ℕ) where
     ),
   )
 
-module _ (table m : List ℕ) (room : ℕ) where
-  pub good-call : (writeCallRefusal table m room ≡ none) ↔ GoodCall table m room
+module _ (table m : List ℕ) (outLen : ℕ) where
+  pub good-call : (writeCallRefusal table m outLen ≡ none) ↔ GoodCall table m outLen
   unfolding writeCallRefusal
   good-call = (
     λ e.
@@ -78,13 +78,13 @@ module _ (table m : List ℕ) (room : ℕ) where
         record {
           whole = slots-accepted table .0 (whole .0);
           good = good-write m (slotCount keySize table) .0 (good .0);
-          fits = leb-true _ _ (need-none (leb reportSize room) _ none (good .1) .0);
+          fits = leb-true _ _ (need-none (leb reportSize outLen) _ none (good .1) .0);
         },
     λ h. rw (slots-accepted table .1 (h .whole), good-write m (slotCount keySize table) .1 (h .good), le-leb _ _ (h .fits)),
   )
 
-  pub taken-good : Taken ≡ takenOf (writeCallRefusal table m room) → GoodCall table m room
-  taken-good e = good-call .0 (taken-passed (writeCallRefusal table m room) e)
+  pub taken-good : Taken ≡ takenOf (writeCallRefusal table m outLen) → GoodCall table m outLen
+  taken-good e = good-call .0 (taken-passed (writeCallRefusal table m outLen) e)
 
 -- ---- the call
 

@@ -23,25 +23,25 @@ use Rattle.table.specs.declared.lookups.Found.the-variants.{Refused as F
 use Rattle.table.specs.declared.LookupAnswer.{LookupAnswer}
 use Rattle.table.specs.declared.LookupAnswer.the-variants.{Refused, Miss, Hit as HitAt}
 
--- 5: an output of `room` bytes is shorter than a report
-abbrev pub roomRefusal : ℕ → Option Refusal
-roomRefusal room = need (leb reportSize room) shortOutput none
+-- 5: an output of outLen bytes is shorter than a report
+abbrev pub shortForReport : ℕ → Option Refusal
+shortForReport outLen = need (leb reportSize outLen) shortOutput none
 
 -- only a hit has an answer to write
 abbrev pub hitRefusal : {A : Type 0} → Option A → ℕ → Option Refusal
-hitRefusal none room = none
-hitRefusal (some h) room = roomRefusal room
+hitRefusal none outLen = none
+hitRefusal (some h) outLen = shortForReport outLen
 
 -- key 1; table 4; then 5
 unfoldable pub lookupRefusal : List ℕ → List ℕ → ℕ → Option Refusal
-lookupRefusal key table room =
-    orElse (keyRefusal key) (orElse (slotsRefusal table) (hitRefusal (firstFor positions (slots keySize table) key) room))
+lookupRefusal key table outLen =
+    orElse (keyRefusal key) (orElse (slotsRefusal table) (hitRefusal (firstFor positions (slots keySize table) key) outLen))
 
 -- what a lookup is that is not refused
-pub record GoodLookup (key table : List ℕ) (room : ℕ) : Type 0 where
+pub record GoodLookup (key table : List ℕ) (outLen : ℕ) : Type 0 where
   pub long : length key ≡ keySize
   pub whole : WholeSlots table
-  pub fits : (i : ℕ) → firstFor positions (slots keySize table) key ≡ some i → reportSize ≤ room
+  pub fits : (i : ℕ) → firstFor positions (slots keySize table) key ≡ some i → reportSize ≤ outLen
 
 -- ---- the slot that is found
 
@@ -51,23 +51,23 @@ foundOf none none = FoundMiss
 foundOf none (some i) = FoundSlot i
 
 unfoldable pub findAnswer : List ℕ → List ℕ → ℕ → Found
-findAnswer key table room = foundOf (lookupRefusal key table room) (firstFor positions (slots keySize table) key)
+findAnswer key table outLen = foundOf (lookupRefusal key table outLen) (firstFor positions (slots keySize table) key)
 
 -- ---- the call
 
 -- the refusal, or what the table answers
-abbrev pub answerOf : Option Refusal → Option Hit → LookupAnswer
-answerOf (some r) hit = Refused r
-answerOf none none = Miss
-answerOf none (some h) = HitAt (h .slot) (h .rule) (h .action)
+abbrev pub lookupAnswerOf : Option Refusal → Option Hit → LookupAnswer
+lookupAnswerOf (some r) hit = Refused r
+lookupAnswerOf none none = Miss
+lookupAnswerOf none (some h) = HitAt (h .slot) (h .rule) (h .action)
 
 unfoldable pub lookupAnswer : List ℕ → List ℕ → ℕ → LookupAnswer
-lookupAnswer key table room = answerOf (lookupRefusal key table room) (lookup positions (slots keySize table) key)
+lookupAnswer key table outLen = lookupAnswerOf (lookupRefusal key table outLen) (lookup positions (slots keySize table) key)
 
 -- the slots after it: a hit is counted; a miss and a refusal change none
 unfoldable pub slotsAfterLookup : List ℕ → List ℕ → ℕ → List Slot
-slotsAfterLookup key table room =
-    unlessRefused (lookupRefusal key table room) (slots keySize table) (afterLookup positions (slots keySize table) key)
+slotsAfterLookup key table outLen =
+    unlessRefused (lookupRefusal key table outLen) (slots keySize table) (afterLookup positions (slots keySize table) key)
 
 -- and the table's bytes: on a hit those of that slot are replaced, and no other
 abbrev pub countedBytes : List ℕ → Option ℕ → List ℕ
@@ -75,8 +75,8 @@ countedBytes table none = table
 countedBytes table (some i) = putSlot keySize table i (counted (slotAt (slots keySize table) i))
 
 unfoldable pub tableAfterLookup : List ℕ → List ℕ → ℕ → List ℕ
-tableAfterLookup key table room =
-    unlessRefused (lookupRefusal key table room) table (countedBytes table (firstFor positions (slots keySize table) key))
+tableAfterLookup key table outLen =
+    unlessRefused (lookupRefusal key table outLen) table (countedBytes table (firstFor positions (slots keySize table) key))
 
 -- the report of a hit at the start of the output; its other bytes stay
 abbrev pub toldOf : Option Hit → List ℕ → List ℕ

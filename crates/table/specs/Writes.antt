@@ -21,7 +21,7 @@ use Rattle.records.specs.SlotBuffers.{slotCount, WholeSlots}
 use Rattle.checks.specs.BufferRefusals.{slotsRefusal}
 use Rattle.end_records.specs.Writes.{decodeWrite}
 use Rattle.end_records.specs.Reports.{encodeReport}
-use Rattle.table.specs.Lookups.{roomRefusal}
+use Rattle.table.specs.Lookups.{shortForReport}
 use Rattle.slots.specs.Stores.{storedBytes}
 use Rattle.table.specs.declared.WriteAnswer.{WriteAnswer}
 use Rattle.table.specs.declared.WriteAnswer.the-variants.{Refused, Taken}
@@ -37,8 +37,8 @@ writeMessageRefusal m count =
 
 -- table 4; the message's; then 5
 unfoldable pub writeCallRefusal : List ℕ → List ℕ → ℕ → Option Refusal
-writeCallRefusal table m room =
-    orElse (slotsRefusal table) (orElse (writeMessageRefusal m (slotCount keySize table)) (roomRefusal room))
+writeCallRefusal table m outLen =
+    orElse (slotsRefusal table) (orElse (writeMessageRefusal m (slotCount keySize table)) (shortForReport outLen))
 
 -- the refusal, or that it is taken
 abbrev pub takenOf : Option Refusal → WriteAnswer
@@ -47,12 +47,12 @@ takenOf none = Taken
 
 -- the slots after it, and the table's bytes; a refusal changes none
 unfoldable pub slotsAfterWrite : List ℕ → List ℕ → ℕ → List Slot
-slotsAfterWrite table m room =
-    unlessRefused (writeCallRefusal table m room) (slots keySize table) (afterWrite (slots keySize table) (decodeWrite keySize m))
+slotsAfterWrite table m outLen =
+    unlessRefused (writeCallRefusal table m outLen) (slots keySize table) (afterWrite (slots keySize table) (decodeWrite keySize m))
 
 unfoldable pub tableAfterWrite : List ℕ → List ℕ → ℕ → List ℕ
-tableAfterWrite table m room =
-    unlessRefused (writeCallRefusal table m room) table (storedBytes table (decodeWrite keySize m))
+tableAfterWrite table m outLen =
+    unlessRefused (writeCallRefusal table m outLen) table (storedBytes table (decodeWrite keySize m))
 
 -- the report of the slot as it then is, at the start of the output; its other bytes stay
 unfoldable pub outAfterWrite : List ℕ → List ℕ → List ℕ → List ℕ
@@ -76,7 +76,7 @@ pub record GoodWrite (m : List ℕ) (count : ℕ) : Type 0 where
   pub live : 0 < decodeWrite keySize m .sequence
 
 -- what a call is that is not refused
-pub record GoodCall (table m : List ℕ) (room : ℕ) : Type 0 where
+pub record GoodCall (table m : List ℕ) (outLen : ℕ) : Type 0 where
   pub whole : WholeSlots table
   pub good : GoodWrite m (slotCount keySize table)
-  pub fits : reportSize ≤ room
+  pub fits : reportSize ≤ outLen

@@ -24,7 +24,7 @@ pub fn lookup(key: &[u8], table: &mut [u8], out: &mut [u8]) -> LookupAnswer
         Found::Refused(refusal) => LookupAnswer::Refused(refusal),
         Found::Miss => LookupAnswer::Miss,
         Found::Slot(i) => {
-            let x = slots::hits::count(table, i);
+            let x = slots::hits::count_hit(table, i);
             let report = end_records::report::Report {
                 slot: i as u16,
                 sequence: x.sequence,
@@ -51,7 +51,7 @@ pub fn write(table: &mut [u8], message: &[u8], out: &mut [u8]) -> WriteAnswer
         return WriteAnswer::Refused(refusal);
     }
     let w = end_records::write::write_of(message);
-    let x = slots::entry::store(table, w);
+    let x = slots::entry::store_newer(table, w);
     let report = end_records::report::Report {
         slot: w.slot,
         sequence: x.sequence,

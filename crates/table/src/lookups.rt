@@ -12,9 +12,9 @@ pub(crate) enum Found {
     Slot(usize),
 }
 
-// What a lookup comes to, with an output of `room` bytes: refusals 1 of the key, 4, then 5 of a hit. It changes nothing.
-pub(crate) fn find(key: &[u8], table: &[u8], room: usize) -> Found
-    ensures { λ r. ⌜ r ≡ findAnswer (now (key .entry)) (now (table .entry)) room ⌝ }
+// What a lookup comes to, with an output of `out_len` bytes: refusals 1 of the key, 4, then 5 of a hit. It changes nothing.
+pub(crate) fn find(key: &[u8], table: &[u8], out_len: usize) -> Found
+    ensures { λ r. ⌜ r ≡ findAnswer (now (key .entry)) (now (table .entry)) «out_len» ⌝ }
 {
     if key.len() != layout::KEY_SIZE {
         return Found::Refused(Refusal {
@@ -30,10 +30,10 @@ pub(crate) fn find(key: &[u8], table: &[u8], room: usize) -> Found
     }
     // Lent anew, as a part: a slice handed on as it came is copied whole first, and a lookup that hits would wait for that copy.
     let all = &key[0..layout::KEY_SIZE];
-    match slots::find::first_holding(table, all) {
-        slots::find::Holding::Nowhere => Found::Miss,
-        slots::find::Holding::At(i) => {
-            if room < layout::REPORT_SIZE {
+    match slots::find::first_slot_for(table, all) {
+        slots::find::SlotFound::Nowhere => Found::Miss,
+        slots::find::SlotFound::At(i) => {
+            if out_len < layout::REPORT_SIZE {
                 Found::Refused(Refusal {
                     number: refusal::SHORT_OUTPUT,
                     place: 0,

@@ -37,9 +37,9 @@ fn message_answer(message: &[u8], count: usize) -> WriteAnswer
     WriteAnswer::Taken
 }
 
-// Whether a write is taken, with an output of `room` bytes: refusal 4 of the table, those of the message, then 5. It changes nothing.
-pub(crate) fn write_answer(table: &[u8], message: &[u8], room: usize) -> WriteAnswer
-    ensures { λ r. ⌜ r ≡ takenOf (writeCallRefusal (now (table .entry)) (now (message .entry)) room) ⌝ }
+// Whether a write is taken, with an output of `out_len` bytes: refusal 4 of the table, those of the message, then 5. It changes nothing.
+pub(crate) fn write_answer(table: &[u8], message: &[u8], out_len: usize) -> WriteAnswer
+    ensures { λ r. ⌜ r ≡ takenOf (writeCallRefusal (now (table .entry)) (now (message .entry)) «out_len») ⌝ }
 {
     if !checks::buffer::slots_fit(table) {
         return refused(refusal::BAD_SLOTS);
@@ -50,7 +50,7 @@ pub(crate) fn write_answer(table: &[u8], message: &[u8], room: usize) -> WriteAn
     ) {
         return WriteAnswer::Refused(refusal);
     }
-    if room < layout::REPORT_SIZE {
+    if out_len < layout::REPORT_SIZE {
         return refused(refusal::SHORT_OUTPUT);
     }
     WriteAnswer::Taken

@@ -8,7 +8,7 @@ use lib.Dec.{leb}
 use lib.ListN.{length, take, drop, getD, List·getD-eq-default}
 use lib.Seq.{take-all}
 use Rattle.model.proofs.Cases.{by-cases}
-use Rattle.buffers.specs.Numbers.{be}
+use Rattle.buffers.specs.BigEndian.{be}
 use Rattle.buffers.specs.Parts.{part, splice}
 use Rattle.buffers.proofs.PartLaws.{part-length, part-of-splice}
 use Rattle.test_cases.specs.Cases.{partIn, numberAt, copiedIn}

@@ -79,7 +79,7 @@ pub fn with_number(line: Line, n: u64, after: u8) -> Line
 }
 
 // The same for a rule or a slot; a dash where there is none.
-pub fn with_place(line: Line, n: u16, after: u8) -> Line
+pub fn with_number_or_dash(line: Line, n: u16, after: u8) -> Line
     requires { ⌜ (wordSize ≤ line .at) × (line .at ≤ lineSize) ⌝ }
     ensures { λ r. ⌜ WordPut (orDash n) after line r ⌝ }
 {

@@ -12,12 +12,12 @@ use Rattle.end_records.specs.Reports.{decodeReport}
 use Rattle.lists.specs.Written.{numberBytes}
 use Rattle.lists.specs.Answers.{answerOf as listAnswerOf}
 use Rattle.checks.specs.Refusals.{unlessRefused}
-use Rattle.slots.specs.Settling.{reportBytes}
+use Rattle.slots.specs.Settle.{reportBytes}
 use Rattle.keeper.specs.Reports.{reportRefused, reportAnswer}
 use Rattle.keeper.specs.Opens.{openIn, openRefusal}
-use Rattle.miss.specs.Decided.{deciding}
-use Rattle.miss.specs.Decisions.{missIn}
-use Rattle.miss.specs.Carrying.{answerOf as missAnswerOf}
+use Rattle.miss.specs.Decision.{policyView}
+use Rattle.miss.specs.Decide.{missIn}
+use Rattle.miss.specs.Carry.{missAnswerOf}
 use Rattle.miss.specs.declared.carry.MissAnswer.{MissAnswer}
 use Rattle.miss.specs.Answers.{missRefused, missBytes, outWith}
 use Rattle.c_answers.specs.Keeper.{outcomeNumbers, reportedNumbers}
@@ -28,8 +28,8 @@ use Rattle.c_answers.specs.declared.structs.WgOutcome.{WgOutcome}
 
 -- the refusal, or the model's outcome
 abbrev pub missAnswer : List ℕ → List ℕ → List ℕ → ℕ → MissAnswer
-missAnswer policy key keeper room =
-    missAnswerOf (missRefused policy key keeper room) (missOutcome (deciding policy) (slots keySize keeper) (missIn policy key keeper))
+missAnswer policy key keeper outLen =
+    missAnswerOf (missRefused policy key keeper outLen) (missOutcome (policyView policy) (slots keySize keeper) (missIn policy key keeper))
 
 pub record MissCall (policy key keeper out : List ℕ) (r : WgOutcome) (keeper′ out′ : List ℕ) : Type 0 where
   pub numbers : r ≡ outcomeNumbers (missAnswer policy key keeper (length out))

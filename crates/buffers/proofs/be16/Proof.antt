@@ -1,7 +1,7 @@
 -- `buffers::be16` meets its contract: two bytes read by their index are the part. Assumes nothing.
 use borrow.Author.Needs.{needs}
 use native.Mathlib.Omega.{arith}
-use Rattle.buffers.proofs.NumberLaws.{be-two}
+use Rattle.buffers.proofs.BigEndianLaws.{be-two}
 use Rattle.buffers.proofs.be16.Statement.{statement}
 use Rattle.buffers.proofs.be16.Tie as tie
 

@@ -1,7 +1,7 @@
 -- `buffers::be32` meets its contract: four bytes are two halves. Assumes nothing.
 use borrow.Author.Needs.{needs}
 use native.Mathlib.Omega.{arith}
-use Rattle.buffers.proofs.NumberLaws.{be-halves}
+use Rattle.buffers.proofs.BigEndianLaws.{be-halves}
 use Rattle.buffers.proofs.be32.Statement.{statement}
 use Rattle.buffers.proofs.be32.Tie as tie
 

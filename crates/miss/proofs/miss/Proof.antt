@@ -5,18 +5,18 @@ use Rattle.miss.proofs.miss.Statement.{statement}
 use Rattle.miss.proofs.miss.Tie as tie
 
 returns : tie.Need-returns
-returns c = missed-refused _ _ _ _ (c .before .before .before .check-parts .ensures) (c .before .refusal .given .1)
+returns c = missed-refused _ _ _ _ (c .before .before .before .check-lent .ensures) (c .before .refusal .given .1)
 
 on-miss-requires : tie.Need-on-miss-requires
 on-miss-requires c κs =
     let t = c .before .before in
-    fine-of _ _ _ (t .before .before .check-parts .ensures) (t .enum-told .given .1)
+    fine-of _ _ _ (t .before .before .check-lent .ensures) (t .enum-told .given .1)
 
 returns-2 : tie.Need-returns-2
 returns-2 c =
     let o = c .before .before .before .before in
     let t = o .before .before .before in
-    missed _ _ _ _ (t .before .before .check-parts .ensures) (t .enum-told .given .1) (o .on-miss .ensures)
+    missed _ _ _ _ (t .before .before .check-lent .ensures) (t .enum-told .given .1) (o .on-miss .ensures)
 
 pub miss-spec : {M : Type 1} → statement M
 miss-spec =

@@ -7,7 +7,7 @@ use Rattle.miss.proofs.on_miss.Tie as tie
 returns : tie.Need-returns
 returns c =
     let o = c .before .before .before .before in
-    missed-as _ _ _ (o .carry-out .ensures) _ (o .before .before .before .decide .ensures)
+    missed-as _ _ _ (o .carry-out .ensures) _ (o .before .before .before .decide-miss .ensures)
 
 pub on-miss-spec : {M : Type 1} → statement M
 on-miss-spec =

@@ -7,10 +7,10 @@ use Rattle.ends.specs.Ends.{firstFor}
 use Rattle.ternary.specs.Sizes.{keySize, positions}
 use Rattle.checks.proofs.RefusalLaws.{parts-refused, parts-none}
 use Rattle.end_records.specs.Slots.{slots}
-use Rattle.slots.proofs.HoldingLaws.{found-nowhere, found-at, held-few}
+use Rattle.slots.proofs.FindLaws.{found-nowhere, found-at, held-few}
 use Rattle.policy.proofs.CheckLaws.{passed-few}
-use Rattle.policy.specs.Parts.{partsRefusal}
-use Rattle.policy.proofs.PartLaws.{parts-fine}
+use Rattle.policy.specs.Lent.{lentRefusal}
+use Rattle.policy.proofs.LentLaws.{parts-fine}
 use Rattle.policy.proofs.BestLaws.{found-none, found-rule}
 use Rattle.show.specs.Answers.{showAnswer}
 use Rattle.show.proofs.AnswerLaws.{says-slot, says-rule, says-none}
@@ -21,21 +21,21 @@ returns : tie.Need-returns
 unfolding showAnswer
 returns c =
     let a = c .before .before .before .before .before .before .before .args in
-    rw (parts-refused (partsRefusal (a .policy .now) (a .key .now) (a .table .now))
-    (c .before .before .before .check-parts .ensures) (c .before .refusal .given .1))
+    rw (parts-refused (lentRefusal (a .policy .now) (a .key .now) (a .table .now))
+    (c .before .before .before .check-lent .ensures) (c .before .refusal .given .1))
 
 -- no part is refused
-fine : (c : tie.After-first-holding) → let a = c .before .before .before .before .before .before .before .args in
-    partsRefusal (a .policy .now) (a .key .now) (a .table .now) ≡ none
-fine c = parts-none _ (c .before .before .before .check-parts .ensures) (c .before .enum-told .given .1)
+fine : (c : tie.After-first-slot-for) → let a = c .before .before .before .before .before .before .before .args in
+    lentRefusal (a .policy .now) (a .key .now) (a .table .now) ≡ none
+fine c = parts-none _ (c .before .before .before .check-lent .ensures) (c .before .enum-told .given .1)
 
 -- the slot that takes the key
 there : (c : tie.After-i) → let a = c .before .before .before .before .before .before .before .before .before .args in
     firstFor positions (slots keySize (a .table .now)) (a .key .now) ≡ some (c .i .given .0 .0)
-there c = found-at _ _ (sym (c .i .given .1) ∙ c .before .before .first-holding .ensures)
+there c = found-at _ _ (sym (c .i .given .1) ∙ c .before .before .first-slot-for .ensures)
 
-first-holding-requires : tie.Need-first-holding-requires
-first-holding-requires c κs = parts-fine _ _ _ (parts-none _ (c .before .before .check-parts .ensures) (c .enum-told .given .1)) .long
+first-slot-for-requires : tie.Need-first-slot-for-requires
+first-slot-for-requires c κs = parts-fine _ _ _ (parts-none _ (c .before .before .check-lent .ensures) (c .enum-told .given .1)) .long
 
 cast-t9 : tie.Need-cast-t9
 cast-t9 c = omega (arith, held-few _ _ _ (there (c .before)) (parts-fine _ _ _ (fine (c .before .before .before)) .whole))
@@ -46,7 +46,7 @@ returns-2 c = says-slot _ _ _ (fine (c .before .before .before)) _ (there (c .be
 -- no slot takes it
 missed : (c : tie.After-enum-told2) → let a = c .before .before .before .before .before .before .before .before .before .args in
     firstFor positions (slots keySize (a .table .now)) (a .key .now) ≡ none
-missed c = found-nowhere _ (sym (c .enum-told2 .given .1) ∙ c .before .before .first-holding .ensures)
+missed c = found-nowhere _ (sym (c .enum-told2 .given .1) ∙ c .before .before .first-slot-for .ensures)
 
 best-rule-requires : tie.Need-best-rule-requires
 best-rule-requires c κs =
@@ -72,7 +72,7 @@ show-answer-spec =
     (λ c. search needs)
     returns
     (λ c. search needs)
-    first-holding-requires
+    first-slot-for-requires
     (λ c. search needs)
     cast-t9
     returns-2

@@ -15,8 +15,8 @@ there : (c : tie.After-i) → let a = c .before .before .before .before .before 
     Slot (c .i .given .0 .0) ≡ findAnswer (a .key .now) (a .table .now) (length (a .out .now))
 there c = sym (c .i .given .1) ∙ c .before .before .find .ensures
 
-count-requires : tie.Need-count-requires
-count-requires c κs = hit-below _ _ _ _ (there (c .before .before))
+count-hit-requires : tie.Need-count-hit-requires
+count-hit-requires c κs = hit-below _ _ _ _ (there (c .before .before))
 
 cast-t15 : tie.Need-cast-t15
 cast-t15 c = omega (arith, hit-few _ _ _ _ (there (c .before .before .before .before .before)))
@@ -37,7 +37,7 @@ returns-3 : tie.Need-returns-3
 returns-3 c =
     let k = c .before .before .before .before in
     let n = k .before .before in
-    looked-hit _ _ _ _ (asSlot (n .count .result)) _ _ (there (n .before .before .before)) (n .count .ensures)
+    looked-hit _ _ _ _ (asSlot (n .count-hit .result)) _ _ (there (n .before .before .before)) (n .count-hit .ensures)
     (c .before .before .put-report .ensures)
 
 pub lookup-spec : {M : Type 1} → statement M
@@ -48,7 +48,7 @@ lookup-spec =
     (λ c. search needs)
     (λ c. search needs)
     (λ c. search needs)
-    count-requires
+    count-hit-requires
     cast-t15
     put-report-requires
     cast-t15-2

@@ -27,8 +27,8 @@ good c = taken-good _ _ _ (taken c)
 write-of-requires : tie.Need-write-of-requires
 write-of-requires c κs = good c .good .long
 
-store-requires : tie.Need-store-requires
-store-requires c κs =
+store-newer-requires : tie.Need-store-newer-requires
+store-newer-requires c κs =
     let e = ap (λ (w : Write). w .slot) (c .before .write-of .ensures) in
     omega (arith, e, good (c .before .before) .good .slot-there)
 
@@ -39,8 +39,8 @@ returns-2 : tie.Need-returns-2
 returns-2 c =
     let s = c .before .before .before .before .before .before in
     let n = s .before .before in
-    received-taken _ _ _ (asWrite (n .write-of .result)) (asSlot (s .store .result)) _ _ (taken (n .before)) (n .write-of .ensures)
-    (s .store .ensures) (c .before .before .put-report .ensures)
+    received-taken _ _ _ (asWrite (n .write-of .result)) (asSlot (s .store-newer .result)) _ _ (taken (n .before)) (n .write-of .ensures)
+    (s .store-newer .ensures) (c .before .before .put-report .ensures)
 
 pub write-spec : {M : Type 1} → statement M
 write-spec =
@@ -52,7 +52,7 @@ write-spec =
     returns
     (λ c. search needs)
     write-of-requires
-    store-requires
+    store-newer-requires
     put-report-requires
     (λ c. search needs)
     (λ c. search needs)

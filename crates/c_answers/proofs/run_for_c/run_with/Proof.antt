@@ -2,19 +2,19 @@
 use borrow.Author.Needs.{needs}
 use mathlib.Core.Path.{_≡_, ap, _∙_}
 use Rattle.c_answers.specs.declared.structs.WgCount.{WgCount}
-use Rattle.c_answers.specs.RunCalls.{RunSeen, seenOf}
+use Rattle.c_answers.specs.RunCalls.{RunResultForC, runForC}
 use Rattle.c_answers.proofs.run_for_c.run_with.Statement.{statement}
 use Rattle.c_answers.proofs.run_for_c.run_with.Tie as tie
 
--- what is seen, with these numbers
-with-numbers : {s : RunSeen} {n : WgCount} → n ≡ s .numbers
+-- what is resultForC, with these numbers
+with-numbers : {s : RunResultForC} {n : WgCount} → n ≡ s .numbers
     → record { numbers = n; totals = s .totals; table = s .table; keeper = s .keeper; out = s .out } ≡ s
 with-numbers {s} e i = record { numbers = e i; totals = s .totals; table = s .table; keeper = s .keeper; out = s .out }
 
 returns : tie.Need-returns
 returns c =
     let k = c .before .before .before .before .before .before .before .before .run .ensures in
-    with-numbers (c .run-numbers .ensures) ∙ ap seenOf (k .whole)
+    with-numbers (c .run-numbers .ensures) ∙ ap runForC (k .whole)
 
 pub run-with-spec : {M : Type 1} → statement M
 run-with-spec =

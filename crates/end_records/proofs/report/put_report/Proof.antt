@@ -3,7 +3,7 @@ use borrow.Author.Needs.{needs}
 use mathlib.Core.Path.{_≡_, refl, _∙_}
 use mathlib.Core.List.{[], _∷_, _++_}
 use native.Mathlib.Omega.{arith}
-use Rattle.buffers.specs.Numbers.{toBe}
+use Rattle.buffers.specs.BigEndian.{toBe}
 use Rattle.buffers.specs.Parts.{splice}
 use Rattle.buffers.proofs.PartLaws.{splice-next}
 use Rattle.records.specs.Layout.{reportHits, isReport}

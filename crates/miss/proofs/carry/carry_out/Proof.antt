@@ -15,8 +15,8 @@ returns-2 c =
     let t = c .before in
     carried-short _ _ _ (t .before .gives-write .ensures) (not-false (t .if1 .left)) (omega (arith, c .if2 .taken))
 
-place-entry-requires : tie.Need-place-entry-requires
-place-entry-requires c κs =
+put-new-entry-requires : tie.Need-put-new-entry-requires
+put-new-entry-requires c κs =
     let t = c .before .before in
     let g = t .before in
     (g .before .before .before .before .before .pre, sym (g .gives-write .ensures) ∙ not-false (t .if1 .left))
@@ -26,7 +26,7 @@ returns-3 c =
     let w = c .before .before in
     let e = w .before .before .before .before in
     let s = e .before .before in
-    carried-given _ _ _ (s .before .before .gives-write .ensures) (not-false (s .before .if1 .left)) (s .if2 .left) (e .place-entry .ensures)
+    carried-given _ _ _ (s .before .before .gives-write .ensures) (not-false (s .before .if1 .left)) (s .if2 .left) (e .put-new-entry .ensures)
     (w .put-write .ensures)
 
 pub carry-out-spec : {M : Type 1} → statement M
@@ -36,7 +36,7 @@ carry-out-spec =
     (λ c. search needs)
     returns
     returns-2
-    place-entry-requires
+    put-new-entry-requires
     (λ c. search needs)
     (λ c. search needs)
     (λ c. search needs)

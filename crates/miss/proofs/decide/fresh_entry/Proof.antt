@@ -1,7 +1,7 @@
 -- `miss::decide::fresh_entry` meets its contract: an entry is placed unless the last sequence is in use. Assumes nothing.
 use borrow.Author.Needs.{needs}
 use native.Mathlib.Omega.{arith}
-use Rattle.miss.proofs.DecisionLaws.{used-up, not-used-up}
+use Rattle.miss.proofs.DecideLaws.{used-up, not-used-up}
 use Rattle.miss.proofs.decide.fresh_entry.Statement.{statement}
 use Rattle.miss.proofs.decide.fresh_entry.Tie as tie
 

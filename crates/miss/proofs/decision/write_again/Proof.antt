@@ -1,6 +1,6 @@
 -- `miss::decision::write_again` meets its contract: the write has the slot's entry. Assumes nothing.
 use borrow.Author.Needs.{needs}
-use Rattle.miss.proofs.DecidedLaws.{again-decided}
+use Rattle.miss.proofs.DecisionLaws.{again-decided}
 use Rattle.miss.proofs.decision.write_again.Statement.{statement}
 use Rattle.miss.proofs.decision.write_again.Tie as tie
 

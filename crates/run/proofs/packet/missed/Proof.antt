@@ -5,10 +5,10 @@ use Rattle.run.proofs.MissLaws.{missed-quiet, missed-sent}
 use Rattle.run.proofs.packet.missed.Statement.{statement}
 use Rattle.run.proofs.packet.missed.Tie as tie
 
-place-entry-requires : tie.Need-place-entry-requires
-place-entry-requires c κs =
+put-new-entry-requires : tie.Need-put-new-entry-requires
+put-new-entry-requires c κs =
     let g = c .before .before in
-    (g .before .before .before .decide .ensures .inside, sym (g .gives-write .ensures) ∙ c .before .if1 .taken)
+    (g .before .before .before .decide-miss .ensures .inside, sym (g .gives-write .ensures) ∙ c .before .if1 .taken)
 
 returns : tie.Need-returns
 returns c =
@@ -16,13 +16,13 @@ returns c =
     let p = s .before .before .before .before .before in
     let i = p .before .before in
     let g = i .before in
-    missed-sent _ _ _ _ _ (g .before .before .before .decide .ensures) (sym (g .gives-write .ensures) ∙ i .if1 .taken) (p .place-entry .ensures)
-    (s .send .ensures)
+    missed-sent _ _ _ _ _ (g .before .before .before .decide-miss .ensures) (sym (g .gives-write .ensures) ∙ i .if1 .taken) (p .put-new-entry .ensures)
+    (s .send-write .ensures)
 
 returns-2 : tie.Need-returns-2
 returns-2 c =
     let g = c .before in
-    missed-quiet _ _ _ _ _ (g .before .before .before .decide .ensures) (sym (g .gives-write .ensures) ∙ c .if1 .left)
+    missed-quiet _ _ _ _ _ (g .before .before .before .decide-miss .ensures) (sym (g .gives-write .ensures) ∙ c .if1 .left)
 
 pub missed-spec : {M : Type 1} → statement M
 missed-spec =
@@ -30,7 +30,7 @@ missed-spec =
     (tie.spec
     (λ c. search needs)
     (λ c. search needs)
-    place-entry-requires
+    put-new-entry-requires
     (λ c. search needs)
     (λ c. search needs)
     (λ c. search needs)

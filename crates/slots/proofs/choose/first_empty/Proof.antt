@@ -1,7 +1,7 @@
 -- `slots::choose::first_empty` meets its contract: no slot below i is empty. Assumes nothing.
 use borrow.Author.Needs.{needs}
 use Prim.Native.Nat.{_≤_, _-_}
-use Rattle.slots.proofs.RoomLaws.{Full, full-none, full-more, empty-here, empty-nowhere}
+use Rattle.slots.proofs.ChooseLaws.{Full, full-none, full-more, empty-here, empty-nowhere}
 use Rattle.slots.proofs.choose.first_empty.Statement.{statement}
 use Rattle.slots.proofs.choose.first_empty.Tie as tie
 

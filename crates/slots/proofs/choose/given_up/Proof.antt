@@ -3,7 +3,7 @@ use borrow.Author.Needs.{needs}
 use mathlib.Core.Logic.{⊎-elim}
 use Prim.Native.Nat.{_≤_, _-_}
 use native.Mathlib.Nat.{le-antisymm}
-use Rattle.slots.proofs.RoomLaws.{FirstSoFar, first-slot, first-kept, first-taken, first-done}
+use Rattle.slots.proofs.ChooseLaws.{FirstSoFar, first-slot, first-kept, first-taken, first-done}
 use Rattle.slots.proofs.choose.given_up.Statement.{statement}
 use Rattle.slots.proofs.choose.given_up.Tie as tie
 

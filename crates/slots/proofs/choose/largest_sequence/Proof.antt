@@ -2,7 +2,7 @@
 use borrow.Author.Needs.{needs}
 use Prim.Native.Nat.{_≤_, _-_}
 use native.Mathlib.Nat.{le-antisymm}
-use Rattle.slots.proofs.RoomLaws.{MostSoFar, most-none, most-more, most-done}
+use Rattle.slots.proofs.ChooseLaws.{MostSoFar, most-none, most-more, most-done}
 use Rattle.slots.proofs.choose.largest_sequence.Statement.{statement}
 use Rattle.slots.proofs.choose.largest_sequence.Tie as tie
 

@@ -1,6 +1,6 @@
 -- `slots::settle::take_report` meets its contract: the slot is confirmed where the sequences are equal. Assumes nothing.
 use borrow.Author.Needs.{needs}
-use Rattle.slots.proofs.SettlingLaws.{taken-current, taken-older}
+use Rattle.slots.proofs.SettleLaws.{taken-current, taken-older}
 use Rattle.slots.proofs.settle.take_report.Statement.{statement}
 use Rattle.slots.proofs.settle.take_report.Tie as tie
 

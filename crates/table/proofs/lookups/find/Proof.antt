@@ -13,8 +13,8 @@ use Rattle.ternary.specs.Sizes.{keySize, positions}
 use Rattle.checks.specs.Keys.{keyRefusal}
 use Rattle.end_records.specs.Slots.{slots}
 use Rattle.checks.specs.BufferRefusals.{slotsFit, slotsRefusal}
-use Rattle.slots.specs.Holding.{holdingOf}
-use Rattle.slots.proofs.HoldingLaws.{found-nowhere, found-at}
+use Rattle.slots.specs.Find.{slotFoundOf}
+use Rattle.slots.proofs.FindLaws.{found-nowhere, found-at}
 use Rattle.table.specs.Lookups.{lookupRefusal, findAnswer}
 use Rattle.table.proofs.lookups.find.Statement.{statement}
 use Rattle.table.proofs.lookups.find.Tie as tie
@@ -30,19 +30,19 @@ returns-2 c =
     rw (eq-eqb _ _ (k .before .if1 .left), sym (k .slots-fit .ensures) ∙ not-true (c .if2 .taken))
 
 -- the table is not refused
-fit : (c : tie.After-first-holding) → slotsFit (c .before .before .before .before .before .before .before .args .table .now) ≡ true
+fit : (c : tie.After-first-slot-for) → slotsFit (c .before .before .before .before .before .before .before .args .table .now) ≡ true
 fit c = sym (c .before .before .before .slots-fit .ensures) ∙ not-false (c .before .before .if2 .left)
 
 -- the part of the key that is lent is all of it
-key-long : (c : tie.After-first-holding) → length (c .before .before .before .before .before .before .before .args .key .now) ≡ keySize
+key-long : (c : tie.After-first-slot-for) → length (c .before .before .before .before .before .before .before .args .key .now) ≡ keySize
 key-long c = c .before .before .before .before .if1 .left
 
 -- the slot found is the first that takes the key
-first : (c : tie.After-first-holding) → let a = c .before .before .before .before .before .before .before .args in
-    c .first-holding .result ≡ holdingOf (firstFor positions (slots keySize (a .table .now)) (a .key .now))
+first : (c : tie.After-first-slot-for) → let a = c .before .before .before .before .before .before .before .args in
+    c .first-slot-for .result ≡ slotFoundOf (firstFor positions (slots keySize (a .table .now)) (a .key .now))
 first c =
     let key = c .before .before .before .before .before .before .before .args .key .now in
-    rw (take-all keySize key (omega (arith, key-long c))) at (c .first-holding .ensures)
+    rw (take-all keySize key (omega (arith, key-long c))) at (c .first-slot-for .ensures)
 
 -- the slot that takes the key
 there : (c : tie.After-i) → let a = c .before .before .before .before .before .before .before .before .before .args in
