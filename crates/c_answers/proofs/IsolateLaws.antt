@@ -15,29 +15,29 @@ use Rattle.checks.specs.Refusals.{refusal}
 use Rattle.checks.specs.declared.refusal.Refusal.{Refusal}
 use Rattle.isolate.specs.Answers.{isolateRefusal, isolateAnswerOf, isolatedAnswer, isolateAnswer}
 use Rattle.isolate.specs.declared.IsolateAnswer.{IsolateAnswer}
-use Rattle.isolate.specs.declared.Said.{Said}
-use Rattle.isolate.specs.declared.Said.the-variants.{Refused, Isolated}
+use Rattle.checks.specs.declared.refusal.Verdict.{Verdict}
+use Rattle.checks.specs.declared.refusal.Verdict.the-variants.{Refused, Fine}
 use Rattle.isolate.proofs.Promise.{isolated-of, answer-isolates}
 use Rattle.c_answers.specs.Isolate.{patternSize, patternRefusal, refusedCounts, isolatedCounts}
 use Rattle.c_answers.specs.declared.structs.WgIsolated.{WgIsolated}
 use Rattle.c_answers.specs.IsolateCalls.{isolatedIn, IsolateCall}
 
-of-refused : (o : Option Refusal) (x : IsolatedRule) (r : Refusal) → (isolateAnswerOf o x) .said ≡ Refused r → o ≡ some r
+of-refused : (o : Option Refusal) (x : IsolatedRule) (r : Refusal) → (isolateAnswerOf o x) .verdict ≡ Refused r → o ≡ some r
 of-refused (some s) x r e = cc
 of-refused none x r e = let z : _≡_ {A = ℕ} 0 1 = cc in absurd (omega arith)
 
 module _ (policy key : List ℕ) (number : ℕ) (a : IsolateAnswer) (e : a ≡ isolateAnswer policy key number) where
-  said-so : (s : Said) → a .said ≡ s → (isolateAnswer policy key number) .said ≡ s
+  said-so : (s : Verdict) → a .verdict ≡ s → (isolateAnswer policy key number) .verdict ≡ s
   said-so s t = rw (← e) t
 
-  refused : (r : Refusal) → a .said ≡ Refused r → isolateRefusal policy key number ≡ some r
+  refused : (r : Refusal) → a .verdict ≡ Refused r → isolateRefusal policy key number ≡ some r
   unfolding isolateAnswer
   refused r t = of-refused (isolateRefusal policy key number) (isolatedIn policy key number) r (said-so (Refused r) t)
 
-  module _ (t : a .said ≡ Isolated) where
+  module _ (t : a .verdict ≡ Fine) where
     free : isolateRefusal policy key number ≡ none
     unfolding isolateAnswer
-    free = isolated-of (isolateRefusal policy key number) (isolatedIn policy key number) (said-so Isolated t)
+    free = isolated-of (isolateRefusal policy key number) (isolatedIn policy key number) (said-so Fine t)
 
     -- the answer is the model's rule
     rule-told : a ≡ isolatedAnswer (isolatedIn policy key number)
@@ -48,22 +48,22 @@ module _ (policy key : List ℕ) (number : ℕ) (a : IsolateAnswer) (e : a ≡ i
     pub counts-fit : (a .fixed ≤ positions) × (a .wildcards ≤ positions)
     unfolding wildcards
     counts-fit =
-        let is = answer-isolates policy key number (said-so Isolated t) .0 in
+        let is = answer-isolates policy key number (said-so Fine t) .0 in
         rw e (omega (arith, is .within), omega (arith, is .left))
 
   -- ---- each way out, with an output
 
   module _ (out : List ℕ) (w : WgIsolated) where
-    pub call-refused : (r : Refusal) → a .said ≡ Refused r → w ≡ refusedCounts r → IsolateCall policy key number out w out
+    pub call-refused : (r : Refusal) → a .verdict ≡ Refused r → w ≡ refusedCounts r → IsolateCall policy key number out w out
     unfolding patternRefusal
-    call-refused r t n = record { numbers = rw (refused r t) n; written = rw (refused r t) }
+    call-refused r t n = record { answer = rw (refused r t) n; out-after = rw (refused r t) }
 
-    pub call-short : a .said ≡ Isolated → length out < patternSize → w ≡ refusedCounts (refusal shortOutput 0)
+    pub call-short : a .verdict ≡ Fine → length out < patternSize → w ≡ refusedCounts (refusal shortOutput 0)
         → IsolateCall policy key number out w out
     unfolding patternRefusal
-    call-short t l n = record { numbers = rw (free t, lt-ltb _ _ l) n; written = rw (free t, lt-ltb _ _ l) }
+    call-short t l n = record { answer = rw (free t, lt-ltb _ _ l) n; out-after = rw (free t, lt-ltb _ _ l) }
 
-    pub call-isolated : (out′ : List ℕ) → a .said ≡ Isolated → patternSize ≤ length out → w ≡ isolatedCounts (a .fixed) (a .wildcards)
+    pub call-isolated : (out′ : List ℕ) → a .verdict ≡ Fine → patternSize ≤ length out → w ≡ isolatedCounts (a .fixed) (a .wildcards)
         → out′ ≡ splice 0 (a .value ++ a .mask) out → IsolateCall policy key number out w out′
     unfolding patternRefusal
     call-isolated out′ t l n p =
@@ -74,4 +74,4 @@ module _ (policy key : List ℕ) (number : ℕ) (a : IsolateAnswer) (e : a ≡ i
         let pattern : out′ ≡ splice 0 (isolatedIn policy key number .value ++ isolatedIn policy key number .mask) out =
         p ∙ ap (λ (x : IsolateAnswer). splice 0 (x .value ++ x .mask) out) told
         in
-        record { numbers = rw (free t, le-ltb _ _ l) counts; written = rw (free t, le-ltb _ _ l) pattern }
+        record { answer = rw (free t, le-ltb _ _ l) counts; out-after = rw (free t, le-ltb _ _ l) pattern }

@@ -28,6 +28,6 @@ abbrev pub isolatedCounts : ℕ → ℕ → WgIsolated
 isolatedCounts fixed wildcards = record { refusal = 0; place = 0; fixed = fixed; wildcards = wildcards }
 
 -- the refusal's, or the isolated rule's
-abbrev pub isolatedNumbers : Option Refusal → Isolated → WgIsolated
-isolatedNumbers (some r) x = refusedCounts r
-isolatedNumbers none x = isolatedCounts (x .fixedBits) (x .wildcardsLeft)
+abbrev pub isolateForC : Option Refusal → Isolated → WgIsolated
+isolateForC (some r) x = refusedCounts r
+isolateForC none x = isolatedCounts (x .fixedBits) (x .wildcardsLeft)

@@ -16,8 +16,8 @@ use Rattle.checks.specs.Flaws.{isFlawed}
 use Rattle.checks.specs.declared.flaw.Flaw.{Flaw}
 use Rattle.checks.specs.declared.flaw.Flaw.the-variants.{Clean}
 use Rattle.checks.proofs.CleanLaws.{clean-of}
-use Rattle.checks.specs.Flawed.{checkedOf, firstFlawed}
-use Rattle.checks.specs.declared.flawed.Checked.the-variants.{AllClean, Flawed}
+use Rattle.checks.specs.Flawed.{firstFlawOf, firstFlawed}
+use Rattle.checks.specs.declared.flawed.FirstFlaw.the-variants.{AllClean, Flawed}
 
 -- ---- a loop over records of one size, where g tells the flaw of a record's bytes
 
@@ -36,7 +36,7 @@ module _ {g : List ℕ → Flaw} {size : ℕ} {bs : List ℕ} where
     -- the search has passed all n
     pub flawed-nowhere : (n : ℕ) → n ≤ i → AllClean ≡ firstFlawed (flawAt g size bs) n
     unfolding firstFlawed
-    flawed-nowhere n l = sym (ap (checkedOf (flawAt g size bs)) (first-missed (λ k. isFlawed (flawAt g size bs k)) n i (is .passed) l))
+    flawed-nowhere n l = sym (ap (firstFlawOf (flawAt g size bs)) (first-missed (λ k. isFlawed (flawAt g size bs k)) n i (is .passed) l))
 
     -- the next is looked at
     module _ {x : Flaw} {b : Bool} (e : x ≡ g (part (size * i + size - size * i) (size * i) bs)) (t : b ≡ isFlawed x) where
@@ -52,11 +52,11 @@ module _ {g : List ℕ → Flaw} {size : ℕ} {bs : List ℕ} where
       unfolding firstFlawed
       flawed-here n l h =
           ap (Flawed i) (rw add-sub-cancel-left at e)
-          ∙ sym (ap (checkedOf (flawAt g size bs)) (first-found (λ k. isFlawed (flawAt g size bs k)) n i (is .passed) l (next ∙ h)))
+          ∙ sym (ap (firstFlawOf (flawAt g size bs)) (first-found (λ k. isFlawed (flawAt g size bs k)) n i (is .passed) l (next ∙ h)))
 
 -- ---- all records are clean
 
-all-clean-none : (f : ℕ → Flaw) (o : Option ℕ) → checkedOf f o ≡ AllClean → o ≡ none
+all-clean-none : (f : ℕ → Flaw) (o : Option ℕ) → firstFlawOf f o ≡ AllClean → o ≡ none
 all-clean-none f none e = refl
 all-clean-none f (some i) e = let z : _≡_ {A = ℕ} 0 1 = cc in absurd (omega arith)
 
@@ -64,5 +64,5 @@ pub all-clean : (f : ℕ → Flaw) (n : ℕ) → (firstFlawed f n ≡ AllClean) 
 unfolding firstFlawed
 all-clean f n = (
   λ e i l. clean-of (f i) (foremost-none (λ k. isFlawed (f k)) ltb n (all-clean-none f (firstBelow (λ k. isFlawed (f k)) n) e) i l),
-  λ h. ap (checkedOf f) (first-missed (λ k. isFlawed (f k)) n n (record { at = λ k l. ap isFlawed (h k l) }) (omega arith)),
+  λ h. ap (firstFlawOf f) (first-missed (λ k. isFlawed (f k)) n n (record { at = λ k l. ap isFlawed (h k l) }) (omega arith)),
 )

@@ -10,11 +10,13 @@ use lib.ListN.{length}
 use borrow.Author.Tests.{eqb-true}
 use Rattle.model.specs.Refusals.{ragged}
 use Rattle.ternary.specs.Sizes.{keySize}
-use Rattle.checks.specs.Refusals.{orElse, need, partsOf}
+use Rattle.checks.specs.Refusals.{orElse, need, verdictOf, countAnswerOf}
 use Rattle.checks.specs.Keys.{keyRefusal}
 use Rattle.checks.specs.declared.refusal.Refusal.{Refusal}
-use Rattle.checks.specs.declared.refusal.Parts.{Parts}
-use Rattle.checks.specs.declared.refusal.Parts.the-variants.{Refused, Fine}
+use Rattle.checks.specs.declared.refusal.Verdict.{Verdict}
+use Rattle.checks.specs.declared.refusal.Verdict.the-variants.{Refused, Fine}
+use Rattle.checks.specs.declared.refusal.CountAnswer.{CountAnswer}
+use Rattle.checks.specs.declared.refusal.CountAnswer.the-variants.{Refused as CountRefused, Count}
 
 -- neither of two
 pub none-first : (o later : Option Refusal) → orElse o later ≡ none → (o ≡ none) × (later ≡ none)
@@ -36,11 +38,19 @@ pub key-accepted : (key : List ℕ) → keyRefusal key ≡ none → length key �
 unfolding keyRefusal
 key-accepted key e = eqb-true _ _ (need-none (eqb (length key) keySize) ragged none e .0)
 
--- what the answer about parts says
-pub parts-refused : (o : Option Refusal) {r : Refusal} {a : Parts} → a ≡ partsOf o → a ≡ Refused r → o ≡ some r
-parts-refused (some x) e t = cc
-parts-refused none e t = let z : _≡_ {A = ℕ} 0 1 = cc in absurd (omega arith)
+-- what an answer says of the refusal that it tells
+pub verdict-refused : (o : Option Refusal) {r : Refusal} {a : Verdict} → a ≡ verdictOf o → a ≡ Refused r → o ≡ some r
+verdict-refused (some x) e t = cc
+verdict-refused none e t = let z : _≡_ {A = ℕ} 0 1 = cc in absurd (omega arith)
 
-pub parts-none : (o : Option Refusal) {a : Parts} → a ≡ partsOf o → a ≡ Fine → o ≡ none
-parts-none (some x) e t = let z : _≡_ {A = ℕ} 0 1 = cc in absurd (omega arith)
-parts-none none e t = refl
+pub verdict-fine : (o : Option Refusal) {a : Verdict} → a ≡ verdictOf o → a ≡ Fine → o ≡ none
+verdict-fine (some x) e t = let z : _≡_ {A = ℕ} 0 1 = cc in absurd (omega arith)
+verdict-fine none e t = refl
+
+pub count-refused : (o : Option Refusal) (n : ℕ) {r : Refusal} {a : CountAnswer} → a ≡ countAnswerOf o n → a ≡ CountRefused r → o ≡ some r
+count-refused (some x) n e t = cc
+count-refused none n e t = let z : _≡_ {A = ℕ} 0 1 = cc in absurd (omega arith)
+
+pub count-given : (o : Option Refusal) (n : ℕ) {m : ℕ} {a : CountAnswer} → a ≡ countAnswerOf o n → a ≡ Count m → (o ≡ none) × (m ≡ n)
+count-given (some x) n e t = let z : _≡_ {A = ℕ} 0 1 = cc in absurd (omega arith)
+count-given none n e t = (refl, cc)

@@ -3,8 +3,10 @@ use mathlib.Core.Bool.{Bool, true, false}
 use mathlib.Core.Option.{Option, none, some}
 use Prim.Native.Nat.{ℕ}
 use Rattle.checks.specs.declared.refusal.Refusal.{Refusal}
-use Rattle.checks.specs.declared.refusal.Parts.{Parts}
-use Rattle.checks.specs.declared.refusal.Parts.the-variants.{Refused, Fine}
+use Rattle.checks.specs.declared.refusal.Verdict.{Verdict}
+use Rattle.checks.specs.declared.refusal.Verdict.the-variants.{Refused, Fine}
+use Rattle.checks.specs.declared.refusal.CountAnswer.{CountAnswer}
+use Rattle.checks.specs.declared.refusal.CountAnswer.the-variants.{Refused as CountRefused, Count}
 
 -- the refusal with this number, at this place
 abbrev pub refusal : ℕ → ℕ → Refusal
@@ -25,7 +27,12 @@ abbrev pub unlessRefused : {A : Type 0} → Option Refusal → A → A → A
 unlessRefused (some r) old new = old
 unlessRefused none old new = new
 
--- of parts that are lent: the refusal, or that there is none
-abbrev pub partsOf : Option Refusal → Parts
-partsOf (some r) = Refused r
-partsOf none = Fine
+-- of what a call is lent: the refusal, or that there is none
+abbrev pub verdictOf : Option Refusal → Verdict
+verdictOf (some r) = Refused r
+verdictOf none = Fine
+
+-- the refusal, or the count
+abbrev pub countAnswerOf : Option Refusal → ℕ → CountAnswer
+countAnswerOf (some r) n = CountRefused r
+countAnswerOf none n = Count n

@@ -1,7 +1,7 @@
 // Refusals: the number that a refused call carries, and the place.
 ghost use mathlib.Core.Path.{_≡_};
 ghost use mathlib.Core.Option.{some};
-ghost use Rattle.checks.specs.Refusals.{refusal, partsOf};
+ghost use Rattle.checks.specs.Refusals.{refusal, verdictOf};
 
 // `place` is the first record with a flaw where the number is BAD_RECORD, and 0 in every other case.
 pub struct Refusal {
@@ -36,15 +36,28 @@ pub const LENGTHS_DIFFER: u32 = 12;
 // Some total above the limit before a run.
 pub const TOTALS_FULL: u32 = 13;
 
-// Of parts that are lent: the first refusal, or that there is none.
-pub enum Parts {
+// Of what a call is lent: the first refusal, or that there is none.
+pub enum Verdict {
     Refused(Refusal),
     Fine,
 }
 
-// The refusal of that number, at place 0.
-pub fn refused(number: u32) -> Parts
-    ensures { λ r. ⌜ r ≡ partsOf (some (refusal number 0)) ⌝ }
+// A refusal, or a count: of rules, of numbers written, of packets, of slots.
+pub enum CountAnswer {
+    Refused(Refusal),
+    Count(usize),
+}
+
+// The refusal of that number, at no place.
+pub fn at_no_place(number: u32) -> Refusal
+    ensures { λ r. ⌜ r ≡ refusal number 0 ⌝ }
 {
-    Parts::Refused(Refusal { number, place: 0 })
+    Refusal { number, place: 0 }
+}
+
+// What is lent is refused with that number, at no place.
+pub fn refused(number: u32) -> Verdict
+    ensures { λ r. ⌜ r ≡ verdictOf (some (refusal number 0)) ⌝ }
+{
+    Verdict::Refused(at_no_place(number))
 }

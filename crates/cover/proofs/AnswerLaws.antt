@@ -17,12 +17,11 @@ use Rattle.checks.specs.declared.refusal.Refusal.{Refusal}
 use Rattle.policy.specs.Refusals.{policyRefusal}
 use Rattle.policy.specs.Answers.{checkAnswer}
 use Rattle.policy.proofs.CheckLaws.{check-refused, check-passed, check-count, passed-few}
-use Rattle.policy.specs.declared.PolicyAnswer.{PolicyAnswer}
-use Rattle.policy.specs.declared.PolicyAnswer.the-variants.{Refused as Bad, Rules}
+use Rattle.checks.specs.declared.refusal.CountAnswer.{CountAnswer}
+use Rattle.checks.specs.declared.refusal.CountAnswer.the-variants.{Refused as Bad, Count, Refused}
 use Rattle.lists.specs.Numbers.{Lists}
 use Rattle.lists.specs.Answers.{listRefusal, Answered}
-use Rattle.lists.specs.declared.ListAnswer.{ListAnswer}
-use Rattle.lists.specs.declared.ListAnswer.the-variants.{Refused}
+use Rattle.checks.specs.declared.refusal.CountAnswer.{CountAnswer}
 use Rattle.lists.proofs.GatherLaws.{lists-few}
 use Rattle.lists.proofs.AnswerLaws.{answered-as}
 use Rattle.cover.specs.Depends.{dependsOn}
@@ -36,7 +35,7 @@ pub record Taken (policy : List ℕ) (n : ℕ) : Type 0 where
   pub counted : n ≡ ruleCount keySize policy
   pub few : ruleCount keySize policy ≤ mostRules
 
-pub taken-of : {policy : List ℕ} {n : ℕ} {r : PolicyAnswer} → r ≡ checkAnswer policy → r ≡ Rules n → Taken policy n
+pub taken-of : {policy : List ℕ} {n : ℕ} {r : CountAnswer} → r ≡ checkAnswer policy → r ≡ Count n → Taken policy n
 taken-of {policy} {n} e t =
     let passed = check-passed policy n (sym t ∙ e) in
     record { fine = passed; counted = check-count policy n (sym t ∙ e); few = passed-few policy passed }
@@ -53,9 +52,9 @@ cover-few policy number is =
 
 module _ (policy : List ℕ) (number : ℕ) (out : List ℕ) where
   refused-as : {r : Refusal} → coverRefusal policy number (length out) ≡ some r → Covered policy number out (Refused r) out
-  refused-as e = record { answer = rw e; written = rw e }
+  refused-as e = record { answer = rw e; out-after = rw e }
 
-  pub refused-policy : {r : Refusal} {a : PolicyAnswer} → a ≡ checkAnswer policy → a ≡ Bad r → Covered policy number out (Refused r) out
+  pub refused-policy : {r : Refusal} {a : CountAnswer} → a ≡ checkAnswer policy → a ≡ Bad r → Covered policy number out (Refused r) out
   unfolding coverRefusal
   refused-policy {r} e t = refused-as (rw (check-refused policy r (sym t ∙ e)))
 
@@ -64,11 +63,11 @@ module _ (policy : List ℕ) (number : ℕ) (out : List ℕ) where
     unfolding coverRefusal
     refused-number l = refused-as (rw (is .fine, le-ltb number (ruleCount keySize policy) (omega (arith, is .counted))))
 
-    pub covered-list : {items : List ℕ} {count : ℕ} {r : ListAnswer} {out′ : List ℕ} → number < n → Lists items count (coverList policy number)
+    pub covered-list : {items : List ℕ} {count : ℕ} {r : CountAnswer} {out′ : List ℕ} → number < n → Lists items count (coverList policy number)
         → Answered (take count items) out r out′ → Covered policy number out r out′
     unfolding coverRefusal
     covered-list low list a =
         let t : coverRefusal policy number (length out) ≡ listRefusal (coverList policy number) (length out) =
         rw (is .fine, lt-ltb number (ruleCount keySize policy) (omega (arith, is .counted)))
         in
-        let told = answered-as (coverList policy number) out list a in record { answer = rw t (told .answer); written = rw t (told .written) }
+        let told = answered-as (coverList policy number) out list a in record { answer = rw t (told .answer); out-after = rw t (told .out-after) }

@@ -10,12 +10,12 @@ use Rattle.model.specs.Refusals.{noSuchRule}
 use Rattle.ternary.specs.Sizes.{keySize, positions}
 use Rattle.buffers.specs.Parts.{splice}
 use Rattle.records.specs.Rules.{ruleCount, rules}
-use Rattle.checks.specs.Refusals.{orElse, need, unlessRefused}
+use Rattle.checks.specs.Refusals.{orElse, need, unlessRefused, countAnswerOf}
 use Rattle.checks.specs.declared.refusal.Refusal.{Refusal}
 use Rattle.policy.specs.Refusals.{policyRefusal}
 use Rattle.lists.specs.Written.{numberBytes}
-use Rattle.lists.specs.Answers.{listRefusal, answerOf}
-use Rattle.lists.specs.declared.ListAnswer.{ListAnswer}
+use Rattle.lists.specs.Answers.{listRefusal}
+use Rattle.checks.specs.declared.refusal.CountAnswer.{CountAnswer}
 
 -- the dependents of the rule of that number, which are its cover list
 abbrev pub coverList : List ℕ → ℕ → List ℕ
@@ -27,6 +27,6 @@ coverRefusal policy number outLen =
     orElse (policyRefusal policy) (need (ltb number (ruleCount keySize policy)) noSuchRule (listRefusal (coverList policy number) outLen))
 
 -- the answer, and the output after it: the numbers of the cover list at its start, every other byte as it was
-pub record Covered (policy : List ℕ) (number : ℕ) (out : List ℕ) (r : ListAnswer) (out′ : List ℕ) : Type 0 where
-  pub answer : r ≡ answerOf (coverRefusal policy number (length out)) (length (coverList policy number))
-  pub written : out′ ≡ unlessRefused (coverRefusal policy number (length out)) out (splice 0 (numberBytes (coverList policy number)) out)
+pub record Covered (policy : List ℕ) (number : ℕ) (out : List ℕ) (r : CountAnswer) (out′ : List ℕ) : Type 0 where
+  pub answer : r ≡ countAnswerOf (coverRefusal policy number (length out)) (length (coverList policy number))
+  pub out-after : out′ ≡ unlessRefused (coverRefusal policy number (length out)) out (splice 0 (numberBytes (coverList policy number)) out)

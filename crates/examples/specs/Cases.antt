@@ -4,18 +4,17 @@ use Prim.Native.Nat.{ℕ}
 use lib.ListN.{length}
 use Rattle.model.specs.Small.{row}
 use Rattle.buffers.specs.Parts.{splice}
-use Rattle.checks.specs.Refusals.{unlessRefused}
+use Rattle.checks.specs.Refusals.{unlessRefused, countAnswerOf}
 use Rattle.policy.specs.BestAnswers.{bestAnswer}
 use Rattle.policy.specs.declared.BestAnswer.{BestAnswer}
 use Rattle.policy.specs.declared.BestAnswer.the-variants.{NoRule, Rule}
 use Rattle.lists.specs.Written.{numberBytes}
-use Rattle.lists.specs.Answers.{answerOf}
-use Rattle.lists.specs.declared.ListAnswer.{ListAnswer}
-use Rattle.lists.specs.declared.ListAnswer.the-variants.{Count}
+use Rattle.checks.specs.declared.refusal.CountAnswer.{CountAnswer}
+use Rattle.checks.specs.declared.refusal.CountAnswer.the-variants.{Count}
 use Rattle.cover.specs.Answers.{coverRefusal, coverList}
 use Rattle.isolate.specs.Answers.{isolateAnswer}
 use Rattle.isolate.specs.declared.IsolateAnswer.{IsolateAnswer}
-use Rattle.isolate.specs.declared.Said.the-variants.{Isolated}
+use Rattle.checks.specs.declared.refusal.Verdict.the-variants.{Fine}
 
 -- a record of 32 bytes: the rows show positions 0 to 3, and priority and action are small
 unfoldable pub smallRule : ℕ → ℕ → ℕ → ℕ → List ℕ
@@ -31,7 +30,7 @@ smallBytes =
 -- an answer of a call, with the output that it leaves
 pub data Answer : Type 0 where
   bestIs : BestAnswer → Answer
-  coverIs : ListAnswer → List ℕ → Answer
+  coverIs : CountAnswer → List ℕ → Answer
   isolateIs : IsolateAnswer → Answer
 
 -- what is computed, and what is expected
@@ -51,7 +50,7 @@ coverCase i n out =
     let refused = coverRefusal smallBytes i (length output) in
     let list = coverList smallBytes i in
     record {
-      computed = coverIs (answerOf refused (length list)) (unlessRefused refused output (splice 0 (numberBytes list) output));
+      computed = coverIs (countAnswerOf refused (length list)) (unlessRefused refused output (splice 0 (numberBytes list) output));
       expected = coverIs (Count n) out;
     }
 
@@ -59,7 +58,7 @@ unfoldable pub isolateCase : ℕ → ℕ → ℕ → ℕ → ℕ → ℕ → Cas
 isolateCase i key value mask fixed wildcards =
     record {
       computed = isolateIs (isolateAnswer smallBytes (row key) i);
-      expected = isolateIs (record { said = Isolated; value = row value; mask = row mask; fixed = fixed; wildcards = wildcards });
+      expected = isolateIs (record { verdict = Fine; value = row value; mask = row mask; fixed = fixed; wildcards = wildcards });
     }
 
 unfoldable pub smallCases : List Case

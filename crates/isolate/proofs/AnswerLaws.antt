@@ -5,7 +5,6 @@ use mathlib.Core.List.{List}
 use mathlib.Core.Option.{Option, none, some}
 use mathlib.Core.Logic.{_≢_}
 use Prim.Native.Nat.{ℕ, _≤_, _<_}
-use native.Mathlib.Omega.{arith}
 use lib.Dec.{ltb}
 use lib.ListN.{length}
 use borrow.Author.Tests.{lt-ltb, le-ltb, ltb-true, eqb-true, eq-eqb, ne-eqb}
@@ -14,9 +13,9 @@ use Rattle.model.specs.Refusals.{ragged, noSuchRule, notBest}
 use Rattle.model.proofs.Cases.{clash}
 use Rattle.ternary.specs.Sizes.{keySize, positions}
 use Rattle.records.specs.Rules.{ruleCount, rules}
-use Rattle.checks.specs.Refusals.{refusal}
+use Rattle.checks.specs.Refusals.{refusal, verdictOf}
 use Rattle.checks.specs.declared.refusal.Refusal.{Refusal}
-use Rattle.checks.proofs.RefusalLaws.{none-first, need-none, key-accepted}
+use Rattle.checks.proofs.RefusalLaws.{none-first, need-none, key-accepted, verdict-refused, verdict-fine}
 use Rattle.checks.specs.Keys.{keyRefusal}
 use Rattle.policy.specs.Refusals.{policyRefusal}
 use Rattle.policy.specs.Best.{bestFound}
@@ -25,15 +24,15 @@ use Rattle.policy.specs.declared.search.BestFound.the-variants.{NoRule, Rule as
 use Rattle.policy.proofs.CheckLaws.{passed-few}
 use Rattle.policy.proofs.BestLaws.{found-none, found-rule}
 use Rattle.isolate.specs.Ready.{Ready}
-use Rattle.isolate.specs.Answers.{isBest, isolateRefusal, saidOf}
-use Rattle.isolate.specs.declared.Said.{Said}
-use Rattle.isolate.specs.declared.Said.the-variants.{Refused, Isolated}
+use Rattle.isolate.specs.Answers.{isBest, isolateRefusal}
+use Rattle.checks.specs.declared.refusal.Verdict.{Verdict}
+use Rattle.checks.specs.declared.refusal.Verdict.the-variants.{Refused, Fine}
 
 -- ---- each way out
 
 module _ (policy key : List ℕ) (number : ℕ) where
-  abbrev says : Said → Type 0
-  says r = r ≡ saidOf (isolateRefusal policy key number)
+  abbrev says : Verdict → Type 0
+  says r = r ≡ verdictOf (isolateRefusal policy key number)
 
   pub said-policy : (r : Refusal) → policyRefusal policy ≡ some r → says (Refused r)
   unfolding isolateRefusal
@@ -63,21 +62,13 @@ module _ (policy key : List ℕ) (number : ℕ) where
             let is : best positions (rules keySize policy) key ≡ some i = found-rule policy key i a (sym e ∙ t) in
             rw (fine, eq-eqb _ _ long, lt-ltb _ _ low, is, ne-eqb i number h)
 
-        pub said-isolated : (i a : ℕ) → b ≡ Found i a → i ≡ number → says Isolated
+        pub said-isolated : (i a : ℕ) → b ≡ Found i a → i ≡ number → says Fine
         unfolding isolateRefusal keyRefusal
         said-isolated i a t h =
             let is : best positions (rules keySize policy) key ≡ some i = found-rule policy key i a (sym e ∙ t) in
             rw (fine, eq-eqb _ _ long, lt-ltb _ _ low, is, eq-eqb i number h)
 
 -- ---- where the rule is isolated
-
-said-refused-of : (o : Option Refusal) (r : Refusal) → Refused r ≡ saidOf o → o ≡ some r
-said-refused-of (some x) r e = cc
-said-refused-of none r e = let z : _≡_ {A = ℕ} 0 1 = cc in absurd (omega arith)
-
-said-isolated-of : (o : Option Refusal) → Isolated ≡ saidOf o → o ≡ none
-said-isolated-of (some x) e = let z : _≡_ {A = ℕ} 0 1 = cc in absurd (omega arith)
-said-isolated-of none e = refl
 
 best-is : (o : Option ℕ) (number : ℕ) → isBest o number ≡ true → o ≡ some number
 best-is none number e = clash e refl
@@ -87,14 +78,14 @@ pub policy-fine : (policy key : List ℕ) (number : ℕ) → isolateRefusal poli
 unfolding isolateRefusal
 policy-fine policy key number e = none-first (policyRefusal policy) _ e .0
 
-module _ (policy key : List ℕ) (number : ℕ) (s : Said) (e : s ≡ saidOf (isolateRefusal policy key number)) where
+module _ (policy key : List ℕ) (number : ℕ) (s : Verdict) (e : s ≡ verdictOf (isolateRefusal policy key number)) where
   pub refused-as : (r : Refusal) → s ≡ Refused r → isolateRefusal policy key number ≡ some r
-  refused-as r t = said-refused-of (isolateRefusal policy key number) r (sym t ∙ e)
+  refused-as r t = verdict-refused (isolateRefusal policy key number) e t
 
-  pub isolated-as : s ≡ Isolated → isolateRefusal policy key number ≡ none
-  isolated-as t = said-isolated-of (isolateRefusal policy key number) (sym t ∙ e)
+  pub isolated-as : s ≡ Fine → isolateRefusal policy key number ≡ none
+  isolated-as t = verdict-fine (isolateRefusal policy key number) e t
 
-  pub ready : s ≡ Isolated → Ready policy key number
+  pub ready : s ≡ Fine → Ready policy key number
   unfolding isolateRefusal
   ready t =
       let p = none-first (policyRefusal policy) _ (isolated-as t) in

@@ -12,10 +12,10 @@ use Rattle.checks.specs.declared.refusal.Refusal.{Refusal}
 use Rattle.policy.proofs.Acceptance.{accepted-bytes}
 use Rattle.isolate.specs.Answers.{isolateRefusal, isolateAnswerOf, isolateAnswer}
 use Rattle.isolate.specs.Promise.{AnswerLaw}
-use Rattle.isolate.specs.declared.Said.the-variants.{Isolated}
+use Rattle.checks.specs.declared.refusal.Verdict.the-variants.{Fine}
 use Rattle.isolate.proofs.AnswerLaws.{ready, policy-fine}
 
-pub isolated-of : (o : Option Refusal) (x : IsolatedRule) → (isolateAnswerOf o x) .said ≡ Isolated → o ≡ none
+pub isolated-of : (o : Option Refusal) (x : IsolatedRule) → (isolateAnswerOf o x) .verdict ≡ Fine → o ≡ none
 isolated-of (some r) x e = let z : _≡_ {A = ℕ} 0 1 = cc in absurd (omega arith)
 isolated-of none x e = refl
 
@@ -23,7 +23,7 @@ pub answer-isolates : AnswerLaw
 unfolding isolateAnswer
 answer-isolates policy key number e =
     let free : isolateRefusal policy key number ≡ none = isolated-of (isolateRefusal policy key number) _ e in
-    let is = ready policy key number Isolated (rw free) refl in
+    let is = ready policy key number Fine (rw free) refl in
     let accepted = accepted-bytes policy .0 (policy-fine policy key number free) .accepted in
     let law = rounds-isolate keySize mostRules (rules keySize policy) accepted key number (is .is-best) in
     rw free (law .1, law .0 .few)

@@ -15,8 +15,7 @@ use Rattle.checks.specs.declared.refusal.Refusal.{Refusal}
 use Rattle.checks.specs.Keys.{keyRefusal}
 use Rattle.policy.specs.Refusals.{policyRefusal}
 use Rattle.isolate.specs.declared.IsolateAnswer.{IsolateAnswer}
-use Rattle.isolate.specs.declared.Said.{Said}
-use Rattle.isolate.specs.declared.Said.the-variants.{Refused, Isolated}
+use Rattle.checks.specs.declared.refusal.Verdict.the-variants.{Refused, Fine}
 
 -- the best rule, if there is one, is this one
 abbrev pub isBest : Option ℕ → ℕ → Bool
@@ -31,19 +30,14 @@ isolateRefusal policy key number =
     (need (ltb number (ruleCount keySize policy)) noSuchRule
     (need (isBest (best positions (rules keySize policy) key) number) notBest none)))
 
--- the refusal, or that the rule is isolated
-abbrev pub saidOf : Option Refusal → Said
-saidOf (some r) = Refused r
-saidOf none = Isolated
-
 -- a refusal: rows and counts are all 0
 abbrev pub refusedAnswer : Refusal → IsolateAnswer
 refusedAnswer r =
-    record { said = Refused r; value = replicate keySize 0; mask = replicate keySize 0; fixed = 0; wildcards = 0 }
+    record { verdict = Refused r; value = replicate keySize 0; mask = replicate keySize 0; fixed = 0; wildcards = 0 }
 
 -- the isolated rule
 abbrev pub isolatedAnswer : IsolatedRule → IsolateAnswer
-isolatedAnswer x = record { said = Isolated; value = x .value; mask = x .mask; fixed = x .fixedBits; wildcards = x .wildcardsLeft }
+isolatedAnswer x = record { verdict = Fine; value = x .value; mask = x .mask; fixed = x .fixedBits; wildcards = x .wildcardsLeft }
 
 abbrev pub isolateAnswerOf : Option Refusal → IsolatedRule → IsolateAnswer
 isolateAnswerOf (some r) x = refusedAnswer r

@@ -9,7 +9,7 @@ use Rattle.ternary.specs.Sizes.{keySize, positions}
 use Rattle.records.specs.Rules.{rules}
 use Rattle.isolate.specs.Answers.{isolateAnswer}
 use Rattle.isolate.specs.declared.IsolateAnswer.{IsolateAnswer}
-use Rattle.isolate.specs.declared.Said.the-variants.{Isolated}
+use Rattle.checks.specs.declared.refusal.Verdict.the-variants.{Fine}
 
 -- the isolated rule of an answer
 abbrev pub ruleOf : IsolateAnswer → IsolatedRule
@@ -18,6 +18,6 @@ ruleOf x = record { value = x .value; mask = x .mask; fixedBits = x .fixed; wild
 -- every key that the pattern takes has the same best rule, each position is the rule's own or the key's, and the fixed bits are no more than
 -- the dependents, nor than the rule's wildcard bits
 abbrev pub AnswerLaw : Type 0
-AnswerLaw = (policy key : List ℕ) (number : ℕ) → (isolateAnswer policy key number) .said ≡ Isolated
+AnswerLaw = (policy key : List ℕ) (number : ℕ) → (isolateAnswer policy key number) .verdict ≡ Fine
     → Isolates positions (rules keySize policy) key number (ruleOf (isolateAnswer policy key number))
     × ((isolateAnswer policy key number) .fixed ≤ length (dependents positions (rules keySize policy) number))

@@ -22,8 +22,8 @@ use Rattle.end_records.proofs.SlotLaws.{slot-count}
 use Rattle.checks.proofs.FitLaws.{fit-whole}
 use Rattle.lists.specs.Numbers.{Lists}
 use Rattle.lists.specs.Answers.{Answered}
-use Rattle.lists.specs.declared.ListAnswer.{ListAnswer}
-use Rattle.lists.specs.declared.ListAnswer.the-variants.{Refused}
+use Rattle.checks.specs.declared.refusal.CountAnswer.{CountAnswer}
+use Rattle.checks.specs.declared.refusal.CountAnswer.the-variants.{Refused}
 use Rattle.lists.proofs.GatherLaws.{lists-few, Gathered, gathered-none, gathered-few, gathered-passed, gathered-all}
 use Rattle.lists.proofs.AnswerLaws.{answered-as}
 use Rattle.keeper.specs.Opens.{openIn, openRefusal, Opened}
@@ -87,11 +87,11 @@ few-slots keeper e t = fit-whole keeper (sym e ∙ t) .few-there
 module _ (keeper out : List ℕ) {b : Bool} (e : b ≡ slotsFit keeper) where
   pub refused-slots : b ≡ false → Opened keeper out (Refused (refusal badSlots 0)) out
   unfolding openRefusal slotsRefusal
-  refused-slots t = record { answer = rw (sym e ∙ t); written = rw (sym e ∙ t) }
+  refused-slots t = record { answer = rw (sym e ∙ t); out-after = rw (sym e ∙ t) }
 
-  pub opened-list : {items : List ℕ} {count : ℕ} {r : ListAnswer} {out′ : List ℕ} → b ≡ true → Lists items count (openIn keeper)
+  pub opened-list : {items : List ℕ} {count : ℕ} {r : CountAnswer} {out′ : List ℕ} → b ≡ true → Lists items count (openIn keeper)
       → Answered (take count items) out r out′ → Opened keeper out r out′
   unfolding openRefusal slotsRefusal
   opened-list t list a =
       let told = answered-as (openIn keeper) out list a in
-      record { answer = rw (sym e ∙ t) (told .answer); written = rw (sym e ∙ t) (told .written) }
+      record { answer = rw (sym e ∙ t) (told .answer); out-after = rw (sym e ∙ t) (told .out-after) }

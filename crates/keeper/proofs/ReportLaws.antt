@@ -15,7 +15,7 @@ use Rattle.ends.proofs.Refusals.{report-there}
 use Rattle.model.specs.Refusals.{ragged, wrongKind, badRecord, noSuchSlot, sequenceZero, reportAhead}
 use Rattle.ternary.specs.Sizes.{keySize}
 use Rattle.records.specs.Layout.{reportKind, reportZero, reportSize, isReport}
-use Rattle.checks.specs.Refusals.{need}
+use Rattle.checks.specs.Refusals.{need, verdictOf}
 use Rattle.checks.specs.Flaws.{isFlawed, reportFlaw}
 use Rattle.checks.specs.declared.refusal.Refusal.{Refusal}
 use Rattle.end_records.specs.Slots.{slots}
@@ -25,21 +25,13 @@ use Rattle.end_records.proofs.SlotLaws.{slot-count}
 use Rattle.checks.proofs.FitLaws.{slots-accepted}
 use Rattle.checks.proofs.CleanLaws.{report-clean}
 use Rattle.end_records.specs.Reports.{decodeReport}
-use Rattle.checks.proofs.RefusalLaws.{none-first, need-none}
+use Rattle.checks.proofs.RefusalLaws.{none-first, need-none, verdict-refused, verdict-fine}
 use Rattle.slots.specs.Settle.{ReportTaken}
-use Rattle.keeper.specs.Reports.{numbered, bytesRefusal, reportRefused, answerOf, reportAnswer, Reported}
-use Rattle.keeper.specs.declared.ReportAnswer.{ReportAnswer}
-use Rattle.keeper.specs.declared.ReportAnswer.the-variants.{Refused, Taken}
+use Rattle.keeper.specs.Reports.{numbered, bytesRefusal, reportRefused, reportAnswer, Reported}
+use Rattle.checks.specs.declared.refusal.Verdict.{Verdict}
+use Rattle.checks.specs.declared.refusal.Verdict.the-variants.{Refused, Fine}
 
 -- ---- what an answer says of the tests
-
-pub of-refused : (o : Option Refusal) {r : Refusal} {a : ReportAnswer} → a ≡ answerOf o → a ≡ Refused r → o ≡ some r
-of-refused (some x) e t = cc
-of-refused none e t = let z : _≡_ {A = ℕ} 0 1 = cc in absurd (omega arith)
-
-pub of-taken : (o : Option Refusal) {a : ReportAnswer} → a ≡ answerOf o → a ≡ Taken → o ≡ none
-of-taken (some x) e t = let z : _≡_ {A = ℕ} 0 1 = cc in absurd (omega arith)
-of-taken none e t = refl
 
 pub not-refused : (o : Option ℕ) → numbered o ≡ none → o ≡ none
 not-refused none e = refl
@@ -59,10 +51,10 @@ module _ (keeper : List ℕ) (x : Report) where
   k = slots keySize keeper
 
   -- what was told of the report against the slots, in the words of the model's refusal
-  abbrev Told : ReportAnswer → Option ℕ → Type 0
-  Told r o = r ≡ answerOf (numbered o) → r ≡ answerOf (numbered (reportRefusal k x))
+  abbrev Told : Verdict → Option ℕ → Type 0
+  Told r o = r ≡ verdictOf (numbered o) → r ≡ verdictOf (numbered (reportRefusal k x))
 
-  pub no-slot : {r : ReportAnswer} {i : ℕ} → i ≡ x .slot → slotCount keySize keeper ≤ i → Told r (some noSuchSlot)
+  pub no-slot : {r : Verdict} {i : ℕ} → i ≡ x .slot → slotCount keySize keeper ≤ i → Told r (some noSuchSlot)
   unfolding reportRefusal
   no-slot e l t = rw (le-leb (length k) (x .slot) (omega (arith, slot-count keySize keeper))) t
 
@@ -70,16 +62,16 @@ module _ (keeper : List ℕ) (x : Report) where
     inside : leb (length k) (x .slot) ≡ false
     inside = lt-leb (length k) (x .slot) (omega (arith, slot-count keySize keeper))
 
-    pub no-sequence : {r : ReportAnswer} → x .sequence ≡ 0 → Told r (some sequenceZero)
+    pub no-sequence : {r : Verdict} → x .sequence ≡ 0 → Told r (some sequenceZero)
     unfolding reportRefusal
     no-sequence z t = rw (inside, eq-eqb (x .sequence) 0 z) t
 
     module _ {last : ℕ} (is : last ≡ slotAt k i .sequence) where
-      pub too-new : {r : ReportAnswer} → x .sequence ≢ 0 → last < x .sequence → Told r (some reportAhead)
+      pub too-new : {r : Verdict} → x .sequence ≢ 0 → last < x .sequence → Told r (some reportAhead)
       unfolding reportRefusal
       too-new n m t = rw (inside, ne-eqb (x .sequence) 0 n, ← e, ← is, lt-ltb last (x .sequence) m) t
 
-      pub in-time : {r : ReportAnswer} → x .sequence ≢ 0 → x .sequence ≤ last → Told r none
+      pub in-time : {r : Verdict} → x .sequence ≢ 0 → x .sequence ≤ last → Told r none
       unfolding reportRefusal
       in-time n m t = rw (inside, ne-eqb (x .sequence) 0 n, ← e, ← is, le-ltb last (x .sequence) m) t
 
@@ -92,10 +84,10 @@ module _ (keeper message : List ℕ) where
     pub long : length message ≡ reportSize
     pub inside : decodeReport message .slot < slotCount keySize keeper
 
-  pub accepted-of : {a : ReportAnswer} → a ≡ reportAnswer keeper message → a ≡ Taken → Accepted
+  pub accepted-of : {a : Verdict} → a ≡ reportAnswer keeper message → a ≡ Fine → Accepted
   unfolding reportAnswer reportRefused
   accepted-of e t =
-      let fine = of-taken (reportRefused keeper message) e t in
+      let fine = verdict-fine (reportRefused keeper message) e t in
       let later = none-first (slotsRefusal keeper) _ fine .1 in
       let parts = none-first (bytesRefusal message) _ later in
       record {
@@ -104,18 +96,18 @@ module _ (keeper message : List ℕ) where
         inside = omega (arith, slot-count keySize keeper, report-there _ _ (not-refused _ (parts .1)));
       }
 
-  pub reported-refused : {a : ReportAnswer} {r : Refusal} → a ≡ reportAnswer keeper message → a ≡ Refused r
+  pub reported-refused : {a : Verdict} {r : Refusal} → a ≡ reportAnswer keeper message → a ≡ Refused r
       → Reported keeper message (Refused r) keeper
   unfolding reportAnswer
   reported-refused e t =
-      let refused = of-refused (reportRefused keeper message) e t in
-      record { answer = rw refused; bytes = rw refused; meaning = rw refused }
+      let refused = verdict-refused (reportRefused keeper message) e t in
+      record { answer = rw refused; keeper-after = rw refused; meaning = rw refused }
 
   pub reported-taken : {x : Report} {keeper′ : List ℕ} → Accepted → x ≡ decodeReport message → ReportTaken keeper x keeper′
-      → Reported keeper message Taken keeper′
+      → Reported keeper message Fine keeper′
   unfolding reportAnswer
   reported-taken is e h =
-      record { answer = rw (is .fine); bytes = rw (is .fine, ← e) (h .bytes); meaning = rw (is .fine, ← e) (h .meaning) }
+      record { answer = rw (is .fine); keeper-after = rw (is .fine, ← e) (h .keeper-after); meaning = rw (is .fine, ← e) (h .meaning) }
 
   -- bytes of the right length and kind, with a zero byte that is zero, are not refused
   bytes-fine : length message ≡ reportSize → getD message reportKind 0 ≡ isReport → getD message reportZero 0 ≡ 0 → bytesRefusal message ≡ none

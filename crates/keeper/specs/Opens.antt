@@ -7,13 +7,13 @@ use lib.ListN.{length}
 use Rattle.ends.specs.Ends.{openList}
 use Rattle.ternary.specs.Sizes.{keySize}
 use Rattle.buffers.specs.Parts.{splice}
-use Rattle.checks.specs.Refusals.{orElse, unlessRefused}
+use Rattle.checks.specs.Refusals.{orElse, unlessRefused, countAnswerOf}
 use Rattle.checks.specs.declared.refusal.Refusal.{Refusal}
 use Rattle.end_records.specs.Slots.{slots}
 use Rattle.checks.specs.BufferRefusals.{slotsRefusal}
 use Rattle.lists.specs.Written.{numberBytes}
-use Rattle.lists.specs.Answers.{listRefusal, answerOf}
-use Rattle.lists.specs.declared.ListAnswer.{ListAnswer}
+use Rattle.lists.specs.Answers.{listRefusal}
+use Rattle.checks.specs.declared.refusal.CountAnswer.{CountAnswer}
 
 -- the open slots of the keeper's buffer
 abbrev pub openIn : List ℕ → List ℕ
@@ -24,6 +24,6 @@ unfoldable pub openRefusal : List ℕ → ℕ → Option Refusal
 openRefusal keeper outLen = orElse (slotsRefusal keeper) (listRefusal (openIn keeper) outLen)
 
 -- the answer, and the output after it: the numbers of the open slots at its start, every other byte as it was
-pub record Opened (keeper out : List ℕ) (r : ListAnswer) (out′ : List ℕ) : Type 0 where
-  pub answer : r ≡ answerOf (openRefusal keeper (length out)) (length (openIn keeper))
-  pub written : out′ ≡ unlessRefused (openRefusal keeper (length out)) out (splice 0 (numberBytes (openIn keeper)) out)
+pub record Opened (keeper out : List ℕ) (r : CountAnswer) (out′ : List ℕ) : Type 0 where
+  pub answer : r ≡ countAnswerOf (openRefusal keeper (length out)) (length (openIn keeper))
+  pub out-after : out′ ≡ unlessRefused (openRefusal keeper (length out)) out (splice 0 (numberBytes (openIn keeper)) out)

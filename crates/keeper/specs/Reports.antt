@@ -10,15 +10,14 @@ use Rattle.ends.specs.Ends.{reportRefusal, afterReport}
 use Rattle.model.specs.Refusals.{ragged, wrongKind, badRecord}
 use Rattle.ternary.specs.Sizes.{keySize}
 use Rattle.records.specs.Layout.{reportKind, reportSize, isReport}
-use Rattle.checks.specs.Refusals.{refusal, orElse, need, unlessRefused}
+use Rattle.checks.specs.Refusals.{refusal, orElse, need, unlessRefused, verdictOf}
 use Rattle.checks.specs.declared.refusal.Refusal.{Refusal}
 use Rattle.checks.specs.Flaws.{isFlawed, reportFlaw}
 use Rattle.end_records.specs.Slots.{slots}
 use Rattle.checks.specs.BufferRefusals.{slotsRefusal}
 use Rattle.end_records.specs.Reports.{decodeReport}
 use Rattle.slots.specs.Settle.{reportBytes}
-use Rattle.keeper.specs.declared.ReportAnswer.{ReportAnswer}
-use Rattle.keeper.specs.declared.ReportAnswer.the-variants.{Refused, Taken}
+use Rattle.checks.specs.declared.refusal.Verdict.{Verdict}
 
 -- the model's refusal number, at place 0
 abbrev pub numbered : Option ℕ → Option Refusal
@@ -36,17 +35,12 @@ unfoldable pub reportRefused : List ℕ → List ℕ → Option Refusal
 reportRefused keeper message =
     orElse (slotsRefusal keeper) (orElse (bytesRefusal message) (numbered (reportRefusal (slots keySize keeper) (decodeReport message))))
 
--- the refusal, or that the report is taken
-abbrev pub answerOf : Option Refusal → ReportAnswer
-answerOf (some r) = Refused r
-answerOf none = Taken
-
-unfoldable pub reportAnswer : List ℕ → List ℕ → ReportAnswer
-reportAnswer keeper message = answerOf (reportRefused keeper message)
+unfoldable pub reportAnswer : List ℕ → List ℕ → Verdict
+reportAnswer keeper message = verdictOf (reportRefused keeper message)
 
 -- the answer; the keeper after it, byte by byte; and its slots
-pub record Reported (keeper message : List ℕ) (r : ReportAnswer) (keeper′ : List ℕ) : Type 0 where
+pub record Reported (keeper message : List ℕ) (r : Verdict) (keeper′ : List ℕ) : Type 0 where
   pub answer : r ≡ reportAnswer keeper message
-  pub bytes : keeper′ ≡ unlessRefused (reportRefused keeper message) keeper (reportBytes keeper (decodeReport message))
+  pub keeper-after : keeper′ ≡ unlessRefused (reportRefused keeper message) keeper (reportBytes keeper (decodeReport message))
   pub meaning : slots keySize keeper′
       ≡ unlessRefused (reportRefused keeper message) (slots keySize keeper) (afterReport (slots keySize keeper) (decodeReport message))

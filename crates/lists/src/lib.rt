@@ -1,6 +1,6 @@
 // Lists of numbers of rules or of slots, by value.
 use checks::refusal;
-use checks::refusal::Refusal;
+use checks::refusal::CountAnswer;
 use records::layout;
 ghost use mathlib.Core.Path.{_≡_};
 ghost use Prim.Native.Nat.{_*_, _≤_};
@@ -14,12 +14,6 @@ ghost use Rattle.lists.specs.Answers.{Answered};
 pub struct Numbers {
     pub items: [u16; layout::MOST_RULES],
     pub count: usize,
-}
-
-// A refusal, or how many numbers were written.
-pub enum ListAnswer {
-    Refused(Refusal),
-    Count(usize),
 }
 
 // Writes the list to the start of `out`, two bytes a number; every other byte stays.
@@ -37,16 +31,13 @@ fn put_numbers(list: Numbers, out: &mut [u8])
 }
 
 // Writes the list to the start of `out`: refusal 5 where `out` is shorter than two bytes a number; a refusal writes nothing.
-pub fn list_answer(list: Numbers, out: &mut [u8]) -> ListAnswer
+pub fn list_answer(list: Numbers, out: &mut [u8]) -> CountAnswer
     requires { ⌜ (list .count ≤ mostRules) × (list .count ≤ length (list .items)) ⌝ }
     ensures { λ r. ⌜ Answered (take (list .count) (list .items)) (now (out .entry)) r (now (out .exit)) ⌝ }
 {
     if out.len() < 2 * list.count {
-        return ListAnswer::Refused(Refusal {
-            number: refusal::SHORT_OUTPUT,
-            place: 0,
-        });
+        return CountAnswer::Refused(refusal::at_no_place(refusal::SHORT_OUTPUT));
     }
     put_numbers(list, out);
-    ListAnswer::Count(list.count)
+    CountAnswer::Count(list.count)
 }

@@ -28,10 +28,10 @@ module _ (keeper : List ℕ) (outcome : ℕ) (w : Write) (gives : givesWrite out
   pub entry-placed : {s : Slot} {keeper′ : List ℕ} → outcome ≢ 5 → EntryPut keeper w s keeper′ → NewEntryPut outcome w keeper keeper′
   entry-placed n p =
       let placed : givesNewEntry outcome ≡ true = gives-places outcome gives n in
-      record { bytes = rw (placed, ← p .slot) (p .put .bytes); meaning = rw (placed, ← p .slot) (p .put .meaning) }
+      record { keeper-after = rw (placed, ← p .slot) (p .put .bytes); meaning = rw (placed, ← p .slot) (p .put .meaning) }
 
   pub entry-left : outcome ≡ 5 → NewEntryPut outcome w keeper keeper
-  entry-left e = record { bytes = rw (again-places outcome e); meaning = rw (again-places outcome e) }
+  entry-left e = record { keeper-after = rw (again-places outcome e); meaning = rw (again-places outcome e) }
 
 -- ---- a decision carried out
 
@@ -44,16 +44,16 @@ module _ (d : Decision) (keeper out : List ℕ) where
       let quiet : givesWrite o ≡ false = sym e ∙ t in
       record {
         answer = rw quiet;
-        bytes = rw (quiet, quiet-places o quiet);
+        keeper-after = rw (quiet, quiet-places o quiet);
         meaning = rw (quiet, quiet-places o quiet);
-        given = rw quiet;
+        out-after = rw quiet;
       }
 
   module _ {b : Bool} (e : b ≡ givesWrite o) (t : b ≡ true) where
     pub carried-short : length out < writeSize keySize → CarriedOut d keeper out (Refused (refusal shortOutput 0)) keeper out
     carried-short l =
         let s : ltb (length out) (writeSize keySize) ≡ true = lt-ltb (length out) (writeSize keySize) l in
-        record { answer = rw (sym e ∙ t, s); bytes = rw (sym e ∙ t, s); meaning = rw (sym e ∙ t, s); given = rw (sym e ∙ t, s) }
+        record { answer = rw (sym e ∙ t, s); keeper-after = rw (sym e ∙ t, s); meaning = rw (sym e ∙ t, s); out-after = rw (sym e ∙ t, s) }
 
     pub carried-given : {keeper′ out′ : List ℕ} → writeSize keySize ≤ length out → NewEntryPut o (asWrite (d .write)) keeper keeper′
         → out′ ≡ splice 0 (encodeWrite (asWrite (d .write))) out → CarriedOut d keeper out (Told (d .outcome)) keeper′ out′
@@ -61,7 +61,7 @@ module _ (d : Decision) (keeper out : List ℕ) where
         let s : ltb (length out) (writeSize keySize) ≡ false = le-ltb (length out) (writeSize keySize) l in
         record {
           answer = rw (sym e ∙ t, s);
-          bytes = rw (sym e ∙ t, s) (put .bytes);
+          keeper-after = rw (sym e ∙ t, s) (put .keeper-after);
           meaning = rw (sym e ∙ t, s) (put .meaning);
-          given = rw (sym e ∙ t, s) w;
+          out-after = rw (sym e ∙ t, s) w;
         }

@@ -29,7 +29,7 @@ use Rattle.policy.specs.declared.search.BestFound.the-variants.{NoRule, Rule}
 use Rattle.policy.proofs.BestLaws.{found-none, found-rule, found-action, best-below}
 use Rattle.miss.specs.Decision.{policyView, DecidedAs, NoWrite, entryOutcome}
 use Rattle.miss.specs.declared.decision.Decision.{Decision}
-use Rattle.miss.specs.Decide.{Fine, RuleFor, missWith, entryMiss, ruleMiss, missIn}
+use Rattle.miss.specs.Decide.{FineMiss, RuleFor, missWith, entryMiss, ruleMiss, missIn}
 
 -- ---- the rule
 
@@ -75,14 +75,14 @@ module _ (policy key keeper : List ℕ) where
   abbrev pol : List PolicyRule
   pol = rules keySize policy
 
-  pub no-rule : {b : BestFound} {d : Decision} → Fine policy key keeper → b ≡ bestFound policy key → b ≡ NoRule → NoWrite 0 0 nothing d
+  pub no-rule : {b : BestFound} {d : Decision} → FineMiss policy key keeper → b ≡ bestFound policy key → b ≡ NoRule → NoWrite 0 0 nothing d
       → DecidedAs policy keeper (missIn policy key keeper) d
   unfolding onMiss
   no-rule fine e t is =
       rw (found-none policy key (sym e ∙ t))
       (record { outcome = is .told; write = is .write; inside = omega (arith, blank-slot is, fine .whole .some-there) })
 
-  pub rule-for : {b : BestFound} {number action : ℕ} → Fine policy key keeper → b ≡ bestFound policy key → b ≡ Rule number action
+  pub rule-for : {b : BestFound} {number action : ℕ} → FineMiss policy key keeper → b ≡ bestFound policy key → b ≡ Rule number action
       → RuleFor policy key number action
   rule-for {b} {number} {action} fine e t =
       let is = found-rule policy key number action (sym e ∙ t) in

@@ -53,9 +53,9 @@ outWith (some w) out = splice 0 (encodeWrite w) out
 pub record MissedAs (policy keeper : List ℕ) (m : Miss) (refused : Option Refusal) (out : List ℕ) (r : MissAnswer)
     (keeper′ out′ : List ℕ) : Type 0 where
   pub answer : r ≡ missAnswerOf refused (missOutcome (policyView policy) (slots keySize keeper) m)
-  pub bytes : keeper′ ≡ unlessRefused refused keeper (missBytes keeper m)
+  pub keeper-after : keeper′ ≡ unlessRefused refused keeper (missBytes keeper m)
   pub meaning : slots keySize keeper′ ≡ unlessRefused refused (slots keySize keeper) (missKeeper (slots keySize keeper) m)
-  pub given : out′ ≡ unlessRefused refused out (outWith (missWrite (slots keySize keeper) m) out)
+  pub out-after : out′ ≡ unlessRefused refused out (outWith (missWrite (slots keySize keeper) m) out)
 
 -- the call without its checks
 abbrev pub OnMiss : List ℕ → List ℕ → List ℕ → List ℕ → MissAnswer → List ℕ → List ℕ → Type 0

@@ -36,16 +36,16 @@ shortRefusal outcome outLen = need (not (givesWrite outcome && ltb outLen (write
 
 -- the entry of the write goes into its slot, where one is placed
 pub record NewEntryPut (outcome : ℕ) (w : Write) (keeper keeper′ : List ℕ) : Type 0 where
-  pub bytes : keeper′ ≡ cond (givesNewEntry outcome) (putSlot keySize keeper (w .slot) (written (entryIn w))) keeper
+  pub keeper-after : keeper′ ≡ cond (givesNewEntry outcome) (putSlot keySize keeper (w .slot) (written (entryIn w))) keeper
   pub meaning : slots keySize keeper′
       ≡ cond (givesNewEntry outcome) (set (slots keySize keeper) (w .slot) (written (entryIn w))) (slots keySize keeper)
 
 pub record CarriedOut (d : Decision) (keeper out : List ℕ) (r : MissAnswer) (keeper′ out′ : List ℕ) : Type 0 where
   pub answer : r ≡ missAnswerOf (shortRefusal (d .outcome .outcome) (length out)) (asOutcome (d .outcome))
-  pub bytes : keeper′ ≡ unlessRefused (shortRefusal (d .outcome .outcome) (length out)) keeper
+  pub keeper-after : keeper′ ≡ unlessRefused (shortRefusal (d .outcome .outcome) (length out)) keeper
       (cond (givesNewEntry (d .outcome .outcome)) (putSlot keySize keeper (d .write .slot) (written (entryIn (asWrite (d .write))))) keeper)
   pub meaning : slots keySize keeper′ ≡ unlessRefused (shortRefusal (d .outcome .outcome) (length out)) (slots keySize keeper)
       (cond (givesNewEntry (d .outcome .outcome)) (set (slots keySize keeper) (d .write .slot) (written (entryIn (asWrite (d .write)))))
       (slots keySize keeper))
-  pub given : out′ ≡ unlessRefused (shortRefusal (d .outcome .outcome) (length out)) out
+  pub out-after : out′ ≡ unlessRefused (shortRefusal (d .outcome .outcome) (length out)) out
       (cond (givesWrite (d .outcome .outcome)) (splice 0 (encodeWrite (asWrite (d .write))) out) out)

@@ -18,7 +18,7 @@ use Rattle.miss.specs.Decision.{policyView}
 -- ---- what is asked of the parts
 
 -- as much as a decision needs of them: at most 1,024 rules, a whole key, whole slots. Refusal 3 is not asked after
-pub record Fine (policy key keeper : List ℕ) : Type 0 where
+pub record FineMiss (policy key keeper : List ℕ) : Type 0 where
   pub few : ruleCount keySize policy ≤ mostRules
   pub long : length key ≡ keySize
   pub whole : WholeSlots keeper

@@ -41,10 +41,7 @@ pub fn carry_out(d: Decision, keeper: &mut [u8], out: &mut [u8]) -> MissAnswer
         return MissAnswer::Outcome(outcome);
     }
     if out.len() < layout::WRITE_SIZE {
-        return MissAnswer::Refused(Refusal {
-            number: refusal::SHORT_OUTPUT,
-            place: 0,
-        });
+        return MissAnswer::Refused(refusal::at_no_place(refusal::SHORT_OUTPUT));
     }
     put_new_entry(keeper, outcome.outcome, write);
     end_records::write::put_write(out, write);

@@ -13,7 +13,7 @@ ghost use Rattle.ternary.specs.Sizes.{keySize};
 ghost use Rattle.end_records.specs.Slots.{slots};
 ghost use Rattle.records.specs.SlotBuffers.{WholeSlots};
 ghost use Rattle.miss.specs.Decision.{DecidedAs};
-ghost use Rattle.miss.specs.Decide.{Fine, RuleFor, entryMiss, missWith, ruleMiss, missIn};
+ghost use Rattle.miss.specs.Decide.{FineMiss, RuleFor, entryMiss, missWith, ruleMiss, missIn};
 
 // The decision that the rule goes, isolated for the key, to the slot for a new entry, under that sequence.
 fn new_entry(
@@ -73,7 +73,7 @@ fn with_rule(policy: &[u8], key: &[u8], keeper: &[u8], number: u16, action: u16)
 
 // What a miss comes to, where none of its parts is refused.
 pub fn decide_miss(policy: &[u8], key: &[u8], keeper: &[u8]) -> Decision
-    requires { ⌜ Fine (now policy) (now key) (now keeper) ⌝ }
+    requires { ⌜ FineMiss (now policy) (now key) (now keeper) ⌝ }
     ensures { λ r. ⌜ DecidedAs (now (policy .entry)) (now (keeper .entry))
         (missIn (now (policy .entry)) (now (key .entry)) (now (keeper .entry))) r ⌝ }
 {
@@ -83,7 +83,7 @@ pub fn decide_miss(policy: &[u8], key: &[u8], keeper: &[u8]) -> Decision
             0,
             kinds::NOTHING,
         ),
-        policy::search::BestFound::Rule(number, action) => with_rule(
+        policy::search::BestFound::Rule { number, action } => with_rule(
             policy,
             key,
             keeper,

@@ -4,13 +4,13 @@ pub mod decide;
 pub mod decision;
 
 use crate::carry::MissAnswer;
-use checks::refusal::Parts;
-ghost use Rattle.miss.specs.Decide.{Fine};
+use checks::refusal::Verdict;
+ghost use Rattle.miss.specs.Decide.{FineMiss};
 ghost use Rattle.miss.specs.Answers.{OnMiss, Missed};
 
 // A miss whose parts are not refused: decided, and carried out. Refusal 5 changes nothing.
 pub fn on_miss(policy: &[u8], key: &[u8], keeper: &mut [u8], out: &mut [u8]) -> MissAnswer
-    requires { ⌜ Fine (now policy) (now key) (now keeper) ⌝ }
+    requires { ⌜ FineMiss (now policy) (now key) (now keeper) ⌝ }
     ensures { λ r. ⌜ OnMiss (now (policy .entry)) (now (key .entry)) (now (keeper .entry)) (now (out .entry)) r
         (now (keeper .exit)) (now (out .exit)) ⌝ }
 {
@@ -22,7 +22,7 @@ pub fn miss(policy: &[u8], key: &[u8], keeper: &mut [u8], out: &mut [u8]) -> Mis
     ensures { λ r. ⌜ Missed (now (policy .entry)) (now (key .entry)) (now (keeper .entry)) (now (out .entry)) r
         (now (keeper .exit)) (now (out .exit)) ⌝ }
 {
-    if let Parts::Refused(refusal) = policy::lent::check_lent(policy, key, keeper) {
+    if let Verdict::Refused(refusal) = policy::lent::check_lent(policy, key, keeper) {
         return MissAnswer::Refused(refusal);
     }
     on_miss(policy, key, keeper, out)

@@ -20,12 +20,12 @@ use Rattle.checks.specs.declared.flaw.Flaw.the-variants.{Clean}
 use Rattle.checks.proofs.CleanLaws.{rule-clean}
 use Rattle.checks.proofs.RefusalLaws.{need-none}
 use Rattle.checks.specs.Flawed.{ruleFlawAt, flawRefusal}
-use Rattle.checks.specs.declared.flawed.Checked.{Checked}
-use Rattle.checks.specs.declared.flawed.Checked.the-variants.{AllClean, Flawed}
+use Rattle.checks.specs.declared.flawed.FirstFlaw.{FirstFlaw}
+use Rattle.checks.specs.declared.flawed.FirstFlaw.the-variants.{AllClean, Flawed}
 use Rattle.checks.proofs.FlawedLaws.{all-clean}
 use Rattle.policy.specs.Refusals.{policyRefusal, AcceptedBytes}
 
-flaw-none : (x : Checked) → flawRefusal x ≡ none → x ≡ AllClean
+flaw-none : (x : FirstFlaw) → flawRefusal x ≡ none → x ≡ AllClean
 flaw-none AllClean e = refl
 flaw-none (Flawed i flaw) e = let z : _≡_ {A = ℕ} 0 1 = cc in absurd (omega arith)
 

@@ -17,17 +17,17 @@ use Rattle.checks.specs.BufferRefusals.{slotsFit, slotsRefusal}
 use Rattle.checks.proofs.FitLaws.{slots-accepted}
 use Rattle.policy.specs.Refusals.{policyRefusal}
 use Rattle.policy.specs.Answers.{checkAnswer, bestRefusal}
-use Rattle.policy.specs.declared.PolicyAnswer.{PolicyAnswer}
-use Rattle.policy.specs.declared.PolicyAnswer.the-variants.{Refused, Rules}
+use Rattle.checks.specs.declared.refusal.CountAnswer.{CountAnswer}
+use Rattle.checks.specs.declared.refusal.CountAnswer.the-variants.{Refused, Count}
 use Rattle.policy.proofs.CheckLaws.{check-refused, check-passed}
 use Rattle.policy.specs.Lent.{lentRefusal, FineLent}
 
 module _ (policy key end : List ℕ) where
-  pub bad-policy : {a : PolicyAnswer} {r : Refusal} → a ≡ checkAnswer policy → a ≡ Refused r → lentRefusal policy key end ≡ some r
+  pub bad-policy : {a : CountAnswer} {r : Refusal} → a ≡ checkAnswer policy → a ≡ Refused r → lentRefusal policy key end ≡ some r
   unfolding lentRefusal bestRefusal
   bad-policy {a} {r} e t = rw (check-refused policy r (sym t ∙ e))
 
-  module _ {a : PolicyAnswer} {n : ℕ} (e : a ≡ checkAnswer policy) (t : a ≡ Rules n) where
+  module _ {a : CountAnswer} {n : ℕ} (e : a ≡ checkAnswer policy) (t : a ≡ Count n) where
     passed : policyRefusal policy ≡ none
     passed = check-passed policy n (sym t ∙ e)
 

@@ -1,34 +1,25 @@
 -- What the answer on a record says of its number, for its callers. Assumes nothing.
 use mathlib.Core.Path.{_≡_, refl}
 use mathlib.Core.List.{List}
-use mathlib.Core.Option.{Option, none, some}
+use mathlib.Core.Option.{none, some}
 use Prim.Native.Nat.{ℕ, _<_}
-use native.Mathlib.Omega.{arith}
 use borrow.Author.Tests.{ltb-true}
 use Rattle.ternary.specs.Sizes.{keySize}
 use Rattle.records.specs.Rules.{ruleCount}
 use Rattle.checks.specs.declared.refusal.Refusal.{Refusal}
 use Rattle.policy.specs.Refusals.{policyRefusal}
-use Rattle.policy.specs.RecordAnswers.{recordRefusal, recordOf, recordAnswer}
-use Rattle.policy.specs.declared.record.RecordAnswer.the-variants.{Refused, Shown}
-use Rattle.checks.proofs.RefusalLaws.{none-first, need-none}
-
-of-refused : (o : Option Refusal) (r : Refusal) → Refused r ≡ recordOf o → o ≡ some r
-of-refused (some x) r e = cc
-of-refused none r e = let z : _≡_ {A = ℕ} 0 1 = cc in absurd (omega arith)
-
-of-shown : (o : Option Refusal) → Shown ≡ recordOf o → o ≡ none
-of-shown (some x) e = let z : _≡_ {A = ℕ} 0 1 = cc in absurd (omega arith)
-of-shown none e = refl
+use Rattle.policy.specs.RecordAnswers.{recordRefusal, recordAnswer}
+use Rattle.checks.specs.declared.refusal.Verdict.the-variants.{Refused, Fine}
+use Rattle.checks.proofs.RefusalLaws.{none-first, need-none, verdict-refused, verdict-fine}
 
 module _ (bs : List ℕ) (number : ℕ) where
   pub record-refused : (r : Refusal) → Refused r ≡ recordAnswer bs number → recordRefusal bs number ≡ some r
   unfolding recordAnswer
-  record-refused r e = of-refused (recordRefusal bs number) r e
+  record-refused r e = verdict-refused (recordRefusal bs number) e refl
 
-  pub record-shown : Shown ≡ recordAnswer bs number → recordRefusal bs number ≡ none
+  pub record-shown : Fine ≡ recordAnswer bs number → recordRefusal bs number ≡ none
   unfolding recordAnswer
-  record-shown e = of-shown (recordRefusal bs number) e
+  record-shown e = verdict-fine (recordRefusal bs number) e refl
 
   -- a record that is shown is one of the policy
   pub shown-below : recordRefusal bs number ≡ none → number < ruleCount keySize bs

@@ -1,27 +1,21 @@
 -- How a policy is refused, in the order of the tests. Assumes nothing.
 use mathlib.Core.Path.{_≡_}
-use mathlib.Core.Bool.{not}
 use mathlib.Core.List.{List}
 use mathlib.Core.Option.{Option}
-use Prim.Native.Nat.{ℕ, _*_, _%_, _<_}
-use lib.Dec.{ltb, eqb}
+use Prim.Native.Nat.{ℕ, _*_, _<_}
 use lib.ListN.{length}
 use Rattle.model.specs.Policy.{Accepted}
-use Rattle.model.specs.Refusals.{ragged, tooMany}
 use Rattle.ternary.specs.Sizes.{keySize}
 use Rattle.buffers.specs.Parts.{chunk}
 use Rattle.records.specs.Layout.{ruleSize, mostRules}
 use Rattle.records.specs.Rules.{ruleCount, rules}
-use Rattle.checks.specs.Refusals.{need}
 use Rattle.checks.specs.Flaws.{Zeros, ruleSpares}
 use Rattle.checks.specs.declared.refusal.Refusal.{Refusal}
-use Rattle.checks.specs.Flawed.{firstFlawed, ruleFlawAt, flawRefusal}
+use Rattle.checks.specs.Flawed.{ruleFlawAt, recordsRefusal}
 
 -- policy 1, 2, 3
 unfoldable pub policyRefusal : List ℕ → Option Refusal
-policyRefusal bs =
-    need (eqb (length bs % ruleSize keySize) 0) ragged
-    (need (not (ltb mostRules (ruleCount keySize bs))) tooMany (flawRefusal (firstFlawed (ruleFlawAt keySize bs) (ruleCount keySize bs))))
+policyRefusal bs = recordsRefusal (ruleSize keySize) mostRules (ruleFlawAt keySize bs) bs
 
 -- what the bytes of a policy that is not refused are: whole records, an accepted policy, zero bytes zero
 pub record AcceptedBytes (bs : List ℕ) : Type 0 where

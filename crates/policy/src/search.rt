@@ -11,7 +11,7 @@ ghost use Rattle.policy.specs.Best.{bestFound};
 // The best rule of a key: its number and its action.
 pub enum BestFound {
     NoRule,
-    Rule(u16, u16),
+    Rule { number: u16, action: u16 },
 }
 
 // The best rule of a key: of two that match, the one of larger priority, the earlier on a tie. Refusal 3 of the policy is not asked after.
@@ -39,7 +39,10 @@ pub fn best_rule(policy: &[u8], key: &[u8]) -> BestFound
         i += 1;
     }
     if found {
-        BestFound::Rule(number as u16, records::rule::rule_action(policy, number))
+        BestFound::Rule {
+            number: number as u16,
+            action: records::rule::rule_action(policy, number),
+        }
     } else {
         BestFound::NoRule
     }

@@ -42,7 +42,7 @@ use Rattle.totals.specs.declared.Totals.{Totals as TotalsStruct}
 use Rattle.run.specs.Send.{endsIn}
 use Rattle.run.specs.Refusals.{runRefusal}
 use Rattle.run.specs.Runs.{outcomesOf, endsOf, runOf, RunIs}
-use Rattle.run.specs.declared.RunAnswer.the-variants.{Refused, Packets}
+use Rattle.checks.specs.declared.refusal.CountAnswer.the-variants.{Refused, Count}
 use Rattle.run.specs.declared.Ran.{Ran}
 use Rattle.promises.specs.Calls.{State}
 use Rattle.promises.specs.AnyCall.{AnyCall}
@@ -120,7 +120,7 @@ module _ {count : ℕ} {s : State} (f : Formed count s) where
     )
     run-answered none e = (
       record {
-        answer = Packets (packetCount keySize trace);
+        answer = Count (packetCount keySize trace);
         totals = totalsStruct (totalsAfter t (outcomesOf policy trace (s .table) (s .keeper)));
       },
       spelled encodeSlot (ends .table),
@@ -134,13 +134,13 @@ module _ {count : ℕ} {s : State} (f : Formed count s) where
       record {
         lookups = λ key out.
             let meant = after-lookup (s .table) (f .table-bytes) key (length out) .meaning in
-            (_, _, _, record { answer = refl; bytes = refl; meaning = meant; told = refl });
+            (_, _, _, record { answer = refl; table-after = refl; meaning = meant; out-after = refl });
         writes = λ m out b.
             let meant = after-write (s .table) (f .table-bytes) m b (length out) .meaning in
-            (_, _, _, record { answer = refl; bytes = refl; meaning = meant; told = refl });
+            (_, _, _, record { answer = refl; table-after = refl; meaning = meant; out-after = refl });
         misses = λ policy key out b.
-            (_, _, _, record { answer = refl; bytes = refl; meaning = miss-meant policy key (length out) b _ refl; given = refl });
-        reports = λ m b. (_, _, record { answer = refl; bytes = refl; meaning = report-meant m b _ refl });
-        opens = λ out. (_, _, record { answer = refl; written = refl });
+            (_, _, _, record { answer = refl; keeper-after = refl; meaning = miss-meant policy key (length out) b _ refl; out-after = refl });
+        reports = λ m b. (_, _, record { answer = refl; keeper-after = refl; meaning = report-meant m b _ refl });
+        opens = λ out. (_, _, record { answer = refl; out-after = refl });
         runs = λ policy trace out t b. run-answered policy trace out t b _ refl;
       }

@@ -30,7 +30,7 @@ use Rattle.end_records.specs.Reports.{decodeReport}
 use Rattle.policy.specs.Refusals.{AcceptedBytes}
 use Rattle.slots.specs.Settle.{reportBytes}
 use Rattle.keeper.specs.Reports.{reportRefused, reportAnswer, Reported}
-use Rattle.keeper.specs.declared.ReportAnswer.{ReportAnswer}
+use Rattle.checks.specs.declared.refusal.Verdict.{Verdict}
 use Rattle.keeper.proofs.ReportLaws.{not-refused, accepted-of, report-meaning}
 use Rattle.records.specs.Outcomes.{givesWrite}
 use Rattle.miss.specs.Decision.{policyView}
@@ -102,8 +102,8 @@ module _ {count : ℕ} {s : State} (f : Formed count s) where
         let h = miss-fits policy b accepted k (keeper-slots f) (keeper-whole f .some-there) key in
         let room = none-first (lentRefusal policy key (s .keeper)) _ fine .1 in
         let answer = rw fine at (is .answer) in
-        let bytes = rw fine at (is .bytes) in
-        let told = rw fine at (is .given) in
+        let bytes = rw fine at (is .keeper-after) in
+        let told = rw fine at (is .out-after) in
         let gives : Gives (decodeWrite keySize) WriteBytes (missGave r out′) (missWrite k m) =
         rw (answer, told) (miss-gives (policyView policy) out m h room)
         in
@@ -119,7 +119,7 @@ module _ {count : ℕ} {s : State} (f : Formed count s) where
         → Stepped (policyView policy) count s (after s (missCall policy′ key out r keeper′ out′))
     missed policy′ is (some x) e uses =
         let refusal = rw e at (is .answer) in
-        let left = rw e at (is .bytes) in
+        let left = rw e at (is .keeper-after) in
         rw (refusal, left) (stayed f)
     missed policy′ is none e uses = let q : policy′ ≡ policy = uses e in missed-with (rw q at is) (rw q at e)
 
@@ -137,7 +137,7 @@ module _ {count : ℕ} {s : State} (f : Formed count s) where
       (confirmed-byte keySize (slotAt k (x .slot)) (x .hits) (keeper-slots f .each (x .slot) l) low))
       (λ e. keeper-same)
 
-  module _ (p : PolicyView) {m : List ℕ} {r : ReportAnswer} {keeper′ : List ℕ} (is : Reported (s .keeper) m r keeper′) where
+  module _ (p : PolicyView) {m : List ℕ} {r : Verdict} {keeper′ : List ℕ} (is : Reported (s .keeper) m r keeper′) where
     -- a report that is not refused was given
     reported-as : reportRefused (s .keeper) m ≡ none → List·Memᴰ m (s .reports) → Stepped p count s (after s (reportCall m r keeper′))
     unfolding step meaning reportAnswer
@@ -148,7 +148,7 @@ module _ {count : ℕ} {s : State} (f : Formed count s) where
         not-refused _ (sym (report-meaning (s .keeper) m (keeper-whole f) (h .long) (h .kind) (h .zeroed)) ∙ fine)
         in
         let taken = accepted-of (s .keeper) m refl (rw fine) in
-        let bytes = rw fine at (is .bytes) in
+        let bytes = rw fine at (is .keeper-after) in
         record {
           event = reportArrives (at .0);
           meant = rw (at .1, right) (same-world (rw fine at (is .meaning)) refl refl refl);
@@ -157,5 +157,5 @@ module _ {count : ℕ} {s : State} (f : Formed count s) where
 
     pub reported : (o : Option Refusal) → reportRefused (s .keeper) m ≡ o → (reportRefused (s .keeper) m ≡ none → List·Memᴰ m (s .reports))
         → Stepped p count s (after s (reportCall m r keeper′))
-    reported (some x) e given = let left = rw e at (is .bytes) in rw left (stayed f)
+    reported (some x) e given = let left = rw e at (is .keeper-after) in rw left (stayed f)
     reported none e given = reported-as e (given e)

@@ -41,7 +41,7 @@ use Rattle.table.specs.Writes.{writeCallRefusal}
 use Rattle.table.proofs.ModelLaws.{taken-here, good-lookup}
 use Rattle.keeper.specs.Reports.{numbered, reportRefused}
 use Rattle.keeper.specs.Opens.{openIn, openRefusal, Opened}
-use Rattle.lists.specs.declared.ListAnswer.the-variants.{Count}
+use Rattle.checks.specs.declared.refusal.CountAnswer.the-variants.{Count}
 use Rattle.keeper.proofs.ReportLaws.{report-meaning}
 use Rattle.keeper.proofs.OpenLaws.{list-few}
 use Rattle.miss.specs.Decision.{policyView}

@@ -21,7 +21,7 @@ use Rattle.table.specs.Lookups.{lookupRefusal, lookupAnswer, tableAfterLookup, 
 use Rattle.table.specs.declared.LookupAnswer.{LookupAnswer}
 use Rattle.table.proofs.SlotReports.{report-fits}
 use Rattle.table.specs.Writes.{writeCallRefusal, tableAfterWrite, Received}
-use Rattle.table.specs.declared.WriteAnswer.{WriteAnswer}
+use Rattle.checks.specs.declared.refusal.Verdict.{Verdict}
 use Rattle.table.proofs.WriteLaws.{good-call}
 use Rattle.table.proofs.ModelLaws.{taken-there, good-lookup, looked-up, received}
 use Rattle.table.proofs.AfterLaws.{after-lookup, after-write}
@@ -38,7 +38,7 @@ module _ (p : PolicyView) {count : ℕ} {s : State} (f : Formed count s) where
     lookup-replaced : Replaced (s .table) table′
     lookup-replaced =
         let b = after-lookup (s .table) (f .table-bytes) key (length out) in
-        rw (is .bytes) (record { long = b .long; bytes = b .bytes })
+        rw (is .table-after) (record { long = b .long; bytes = b .bytes })
 
     lookup-gives : (at : Option ℕ) → firstFor positions t key ≡ at → lookupRefusal key (s .table) (length out) ≡ none
         → Gives decodeReport ReportBytes (lookupGave r out′) (hitReport (hitAt t at))
@@ -59,7 +59,7 @@ module _ (p : PolicyView) {count : ℕ} {s : State} (f : Formed count s) where
     unfolding step meaning lookup lookupAnswer tableAfterLookup
     looked (some x) e =
         let refusal = rw e at (is .answer) in
-        let left = rw e at (is .bytes) in
+        let left = rw e at (is .table-after) in
         rw (refusal, left) (stayed f)
     looked none e =
         let gives = lookup-gives (firstFor positions t key) refl e in
@@ -69,13 +69,13 @@ module _ (p : PolicyView) {count : ℕ} {s : State} (f : Formed count s) where
           formed = table-formed f (lookupGave r out′) lookup-replaced gives;
         }
 
-  module _ {m out : List ℕ} {r : WriteAnswer} {table′ out′ : List ℕ} (is : Received (s .table) m out r table′ out′) where
+  module _ {m out : List ℕ} {r : Verdict} {table′ out′ : List ℕ} (is : Received (s .table) m out r table′ out′) where
     -- a write that is not refused was given
     module _ (fine : writeCallRefusal (s .table) m (length out) ≡ none) (given : List·Memᴰ m (s .writes)) where
       write-replaced : Replaced (s .table) table′
       write-replaced =
           let b = after-write (s .table) (f .table-bytes) m (f .writes-formed m given .bytes) (length out) in
-          rw (is .bytes) (record { long = b .long; bytes = b .bytes })
+          rw (is .table-after) (record { long = b .long; bytes = b .bytes })
 
       write-gives : Gives decodeReport ReportBytes (writeGave r out′) (some (writeReport t (decodeWrite keySize m)))
       unfolding writeReport
@@ -108,6 +108,6 @@ module _ (p : PolicyView) {count : ℕ} {s : State} (f : Formed count s) where
     unfolding tableAfterWrite
     wrote (some x) e given =
         let refusal = rw e at (is .answer) in
-        let left = rw e at (is .bytes) in
+        let left = rw e at (is .table-after) in
         rw (refusal, left) (stayed f)
     wrote none e given = took e (given e)

@@ -10,11 +10,11 @@ use Rattle.policy.specs.Refusals.{policyRefusal}
 use Rattle.table.specs.Lookups.{LookedUp}
 use Rattle.table.specs.declared.LookupAnswer.{LookupAnswer}
 use Rattle.table.specs.Writes.{Received}
-use Rattle.table.specs.declared.WriteAnswer.{WriteAnswer}
+use Rattle.checks.specs.declared.refusal.Verdict.{Verdict}
 use Rattle.keeper.specs.Reports.{Reported}
 use Rattle.keeper.specs.Opens.{Opened}
-use Rattle.keeper.specs.declared.ReportAnswer.{ReportAnswer}
-use Rattle.lists.specs.declared.ListAnswer.{ListAnswer}
+use Rattle.checks.specs.declared.refusal.Verdict.{Verdict}
+use Rattle.checks.specs.declared.refusal.CountAnswer.{CountAnswer}
 use Rattle.miss.specs.declared.carry.MissAnswer.{MissAnswer}
 use Rattle.miss.specs.Answers.{Missed}
 use Rattle.run.specs.Runs.{RunIs}
@@ -25,11 +25,11 @@ use Rattle.promises.specs.Calls.{State, clearedEnds, Call, Sequence, Thr
 pub record AnyCall (s : State) : Type 0 where
   pub lookups : (key out : List ℕ) → (r : LookupAnswer) × (table′ : List ℕ) × (out′ : List ℕ) × LookedUp key (s .table) out r table′ out′
   pub writes : (m out : List ℕ) → Bytes m
-      → (r : WriteAnswer) × (table′ : List ℕ) × (out′ : List ℕ) × Received (s .table) m out r table′ out′
+      → (r : Verdict) × (table′ : List ℕ) × (out′ : List ℕ) × Received (s .table) m out r table′ out′
   pub misses : (policy key out : List ℕ) → Bytes policy
       → (r : MissAnswer) × (keeper′ : List ℕ) × (out′ : List ℕ) × Missed policy key (s .keeper) out r keeper′ out′
-  pub reports : (m : List ℕ) → Bytes m → (r : ReportAnswer) × (keeper′ : List ℕ) × Reported (s .keeper) m r keeper′
-  pub opens : (out : List ℕ) → (r : ListAnswer) × (out′ : List ℕ) × Opened (s .keeper) out r out′
+  pub reports : (m : List ℕ) → Bytes m → (r : Verdict) × (keeper′ : List ℕ) × Reported (s .keeper) m r keeper′
+  pub opens : (out : List ℕ) → (r : CountAnswer) × (out′ : List ℕ) × Opened (s .keeper) out r out′
   pub runs : (policy trace out : List ℕ) (t : Totals) → Bytes policy
       → (r : Ran) × (table′ : List ℕ) × (keeper′ : List ℕ) × (out′ : List ℕ) × RunIs policy trace (s .table) (s .keeper) out t r table′ keeper′ out′
 

@@ -15,12 +15,12 @@ use Rattle.table.specs.Lookups.{LookedUp}
 use Rattle.table.specs.declared.LookupAnswer.{LookupAnswer}
 use Rattle.table.specs.declared.LookupAnswer.the-variants.{Refused as LookupRefused, Miss, Hit}
 use Rattle.table.specs.Writes.{writeCallRefusal, Received}
-use Rattle.table.specs.declared.WriteAnswer.{WriteAnswer}
-use Rattle.table.specs.declared.WriteAnswer.the-variants.{Refused as WriteRefused, Taken}
+use Rattle.checks.specs.declared.refusal.Verdict.{Verdict}
+use Rattle.checks.specs.declared.refusal.Verdict.the-variants.{Refused as WriteRefused, Fine}
 use Rattle.keeper.specs.Reports.{reportRefused, Reported}
 use Rattle.keeper.specs.Opens.{Opened}
-use Rattle.keeper.specs.declared.ReportAnswer.{ReportAnswer}
-use Rattle.lists.specs.declared.ListAnswer.{ListAnswer}
+use Rattle.checks.specs.declared.refusal.Verdict.{Verdict}
+use Rattle.checks.specs.declared.refusal.CountAnswer.{CountAnswer}
 use Rattle.records.specs.Outcomes.{givesWrite}
 use Rattle.miss.specs.declared.carry.MissAnswer.{MissAnswer}
 use Rattle.miss.specs.declared.carry.MissAnswer.the-variants.{Refused as MissRefused, Outcome}
@@ -50,10 +50,10 @@ clearedEnds count =
 -- the output
 pub data Call : Type 0 where
   lookup : (key out : List ℕ) → LookupAnswer → (table out′ : List ℕ) → Call
-  write : (message out : List ℕ) → WriteAnswer → (table out′ : List ℕ) → Call
+  write : (message out : List ℕ) → Verdict → (table out′ : List ℕ) → Call
   miss : (policy key out : List ℕ) → MissAnswer → (keeper out′ : List ℕ) → Call
-  report : (message : List ℕ) → ReportAnswer → (keeper : List ℕ) → Call
-  openSlots : (out : List ℕ) → ListAnswer → (out′ : List ℕ) → Call
+  report : (message : List ℕ) → Verdict → (keeper : List ℕ) → Call
+  openSlots : (out : List ℕ) → CountAnswer → (out′ : List ℕ) → Call
   run : (policy trace out : List ℕ) → Totals → Ran → (table keeper out′ : List ℕ) → Call
 
 -- ---- one call
@@ -82,9 +82,9 @@ lookupGave (LookupRefused r) out = none
 lookupGave Miss out = none
 lookupGave (Hit slot rule action) out = some (take reportSize out)
 
-abbrev pub writeGave : WriteAnswer → List ℕ → Option (List ℕ)
+abbrev pub writeGave : Verdict → List ℕ → Option (List ℕ)
 writeGave (WriteRefused r) out = none
-writeGave Taken out = some (take reportSize out)
+writeGave Fine out = some (take reportSize out)
 
 abbrev pub missGave : MissAnswer → List ℕ → Option (List ℕ)
 missGave (MissRefused r) out = none

@@ -22,7 +22,7 @@ use Rattle.table.specs.declared.LookupAnswer.the-variants.{Refused, Miss, Hit}
 use Rattle.table.specs.Writes.{writeCallRefusal}
 use Rattle.keeper.specs.Reports.{reportRefused}
 use Rattle.keeper.specs.Opens.{openRefusal, Opened}
-use Rattle.lists.specs.declared.ListAnswer.the-variants.{Count}
+use Rattle.checks.specs.declared.refusal.CountAnswer.the-variants.{Count}
 use Rattle.promises.specs.Calls.{State, clearedEnds, Call, Sequence, Throughout}
 
 -- a lookup's answer is a miss, or the best rule's number and that rule's action

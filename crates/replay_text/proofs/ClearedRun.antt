@@ -20,8 +20,8 @@ use Rattle.records.proofs.SlotBufferLaws.{whole-slots}
 use Rattle.totals.specs.Sums.{asTotals, totalsFit}
 use Rattle.run.specs.Refusals.{traceRefusal, endsRefusal, runRefusal}
 use Rattle.run.specs.Runs.{RunIs}
-use Rattle.run.specs.declared.RunAnswer.{RunAnswer}
-use Rattle.run.specs.declared.RunAnswer.the-variants.{Refused, Packets}
+use Rattle.checks.specs.declared.refusal.CountAnswer.{CountAnswer}
+use Rattle.checks.specs.declared.refusal.CountAnswer.the-variants.{Refused, Count}
 use Rattle.run.specs.declared.Ran.{Ran}
 use Rattle.run_laws.specs.Calls.{PastRun, Made}
 use Rattle.run_laws.proofs.AcceptedRuns.{AcceptedRun, accepted-run, refused-by, read-back}
@@ -89,7 +89,7 @@ module _ (n : ℕ) (some-there : 1 ≤ n) (few-there : n ≤ mostSlots) (policy 
   cleared-refused : {r : Refusal} → ran .answer ≡ Refused r → callRefusal policy trace ≡ some r
   cleared-refused e = sym refused-same ∙ refused-by clearedTotals call made e
 
-  module _ {k : ℕ} (e : ran .answer ≡ Packets k) where
+  module _ {k : ℕ} (e : ran .answer ≡ Count k) where
     accepted : AcceptedRun clearedTotals call k
     accepted = accepted-run clearedTotals call made e
 
@@ -110,6 +110,6 @@ module _ (n : ℕ) (some-there : 1 ≤ n) (few-there : n ≤ mostSlots) (policy 
   unfolding runText
   ran-cleared = go (ran .answer) refl
     where
-      go : (a : RunAnswer) → ran .answer ≡ a → RanCleared n policy trace ran out′
+      go : (a : CountAnswer) → ran .answer ≡ a → RanCleared n policy trace ran out′
       go (Refused r) e = record { text = rw (e, cleared-refused e); few = rw e (omega arith) }
-      go (Packets k) e = record { text = rw (e, cleared-fine e, cleared-lines e, cleared-totals e); few = rw e (cleared-few e) }
+      go (Count k) e = record { text = rw (e, cleared-fine e, cleared-lines e, cleared-totals e); few = rw e (cleared-few e) }

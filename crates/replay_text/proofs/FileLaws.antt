@@ -1,7 +1,7 @@
 -- What the answer about the files says, where they are taken and where they are refused. Assumes nothing.
 use mathlib.Core.Path.{_≡_, refl}
 use mathlib.Core.List.{List}
-use mathlib.Core.Option.{Option, none, some}
+use mathlib.Core.Option.{none, some}
 use Prim.Native.Nat.{ℕ, _≤_}
 use native.Mathlib.Omega.{arith}
 use borrow.Author.Tests.{leb-true}
@@ -11,10 +11,10 @@ use Rattle.model.specs.Refusals.{tooMany, badSlots}
 use Rattle.records.specs.Layout.{mostSlots}
 use Rattle.checks.specs.Refusals.{need}
 use Rattle.checks.specs.declared.refusal.Refusal.{Refusal}
-use Rattle.checks.proofs.RefusalLaws.{need-none}
+use Rattle.checks.proofs.RefusalLaws.{need-none, count-refused, count-given}
 use Rattle.lines.specs.Slots.{slotsIn}
-use Rattle.replay_text.specs.Files.{mostPolicyBytes, mostTraceBytes, fileRefusal, answerOf, fileAnswer}
-use Rattle.replay_text.specs.declared.files.FileAnswer.the-variants.{Refused, Slots}
+use Rattle.replay_text.specs.Files.{mostPolicyBytes, mostTraceBytes, fileRefusal, fileAnswer}
+use Rattle.checks.specs.declared.refusal.CountAnswer.the-variants.{Refused, Count}
 use Rattle.lines.proofs.SlotText.{slots-few}
 
 -- three files that are taken
@@ -25,23 +25,15 @@ pub record Taken (slots policy trace : List ℕ) (n : ℕ) : Type 0 where
   pub few-there : n ≤ mostSlots
   pub trace-short : length trace ≤ mostTraceBytes
 
-of-refused : (o : Option Refusal) (n : ℕ) {r : Refusal} → answerOf o n ≡ Refused r → o ≡ some r
-of-refused (some q) n e = cc
-of-refused none n e = let z : _≡_ {A = ℕ} 0 1 = cc in absurd (omega arith)
-
-of-slots : (o : Option Refusal) (m : ℕ) {n : ℕ} → answerOf o m ≡ Slots n → (o ≡ none) × (n ≡ m)
-of-slots (some q) m e = let z : _≡_ {A = ℕ} 0 1 = cc in absurd (omega arith)
-of-slots none m e = (refl, cc)
-
 module _ (slots policy trace : List ℕ) where
   pub files-refused : {r : Refusal} → fileAnswer slots policy trace ≡ Refused r → fileRefusal slots policy trace ≡ some r
   unfolding fileAnswer
-  files-refused e = of-refused (fileRefusal slots policy trace) (slotsIn slots) e
+  files-refused e = count-refused (fileRefusal slots policy trace) (slotsIn slots) refl e
 
-  pub files-taken : {n : ℕ} → fileAnswer slots policy trace ≡ Slots n → Taken slots policy trace n
+  pub files-taken : {n : ℕ} → fileAnswer slots policy trace ≡ Count n → Taken slots policy trace n
   unfolding fileAnswer fileRefusal
   files-taken {n} e =
-      let of = of-slots (fileRefusal slots policy trace) (slotsIn slots) e in
+      let of = count-given (fileRefusal slots policy trace) (slotsIn slots) refl e in
       let trace-test = need (leb (length trace) mostTraceBytes) tooMany none in
       let policy-test = need (leb (length policy) mostPolicyBytes) tooMany trace-test in
       let first = need-none (leb 1 (slotsIn slots)) badSlots policy-test (of .0) in

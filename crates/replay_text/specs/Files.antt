@@ -1,6 +1,6 @@
 -- What the sizes of the program's files and slots.txt come to, before any other test. Assumes nothing.
 use mathlib.Core.List.{List}
-use mathlib.Core.Option.{Option, none, some}
+use mathlib.Core.Option.{Option, none}
 use Prim.Native.Nat.{ℕ, _*_}
 use lib.Dec.{leb}
 use lib.ListN.{length}
@@ -8,10 +8,9 @@ use Rattle.model.specs.Refusals.{tooMany, badSlots}
 use Rattle.ternary.specs.Sizes.{keySize}
 use Rattle.records.specs.Layout.{ruleSize, traceSize, mostRules, mostPackets}
 use Rattle.checks.specs.declared.refusal.Refusal.{Refusal}
-use Rattle.checks.specs.Refusals.{need}
+use Rattle.checks.specs.Refusals.{need, countAnswerOf}
 use Rattle.lines.specs.Slots.{slotsIn}
-use Rattle.replay_text.specs.declared.files.FileAnswer.{FileAnswer}
-use Rattle.replay_text.specs.declared.files.FileAnswer.the-variants.{Refused, Slots}
+use Rattle.checks.specs.declared.refusal.CountAnswer.{CountAnswer}
 
 -- 32,768 and 65,536 bytes
 abbrev pub mostPolicyBytes : ℕ
@@ -28,10 +27,5 @@ fileRefusal slots policy trace =
     (need (leb (length trace) mostTraceBytes) tooMany
     none))
 
--- the refusal, or the number of slots
-abbrev pub answerOf : Option Refusal → ℕ → FileAnswer
-answerOf (some r) n = Refused r
-answerOf none n = Slots n
-
-unfoldable pub fileAnswer : List ℕ → List ℕ → List ℕ → FileAnswer
-fileAnswer slots policy trace = answerOf (fileRefusal slots policy trace) (slotsIn slots)
+unfoldable pub fileAnswer : List ℕ → List ℕ → List ℕ → CountAnswer
+fileAnswer slots policy trace = countAnswerOf (fileRefusal slots policy trace) (slotsIn slots)

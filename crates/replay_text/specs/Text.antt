@@ -16,8 +16,8 @@ use Rattle.totals.specs.Sums.{asTotals}
 use Rattle.policy.specs.Refusals.{policyRefusal}
 use Rattle.run.specs.Refusals.{traceRefusal}
 use Rattle.run.specs.Runs.{outcomesOf}
-use Rattle.run.specs.declared.RunAnswer.{RunAnswer}
-use Rattle.run.specs.declared.RunAnswer.the-variants.{Refused, Packets}
+use Rattle.checks.specs.declared.refusal.CountAnswer.{CountAnswer}
+use Rattle.checks.specs.declared.refusal.CountAnswer.the-variants.{Refused, Count}
 use Rattle.run.specs.declared.Ran.{Ran}
 use Rattle.text.specs.Line.{lineSize}
 use Rattle.lines.specs.Printed.{outcomeLine, totalsLine, refusalLine}
@@ -56,14 +56,14 @@ replayText slots policy trace =
     textFor (orElse (fileRefusal slots policy trace) (callRefusal policy trace)) (outcomesFrom (slotsIn slots) policy trace)
 
 -- what is printed of a run that answered this, with these totals, and whose output is `records`
-abbrev pub ranText : RunAnswer → Totals → List ℕ → List ℕ
+abbrev pub ranText : CountAnswer → Totals → List ℕ → List ℕ
 ranText (Refused r) t records = refusalLine (r .number) (r .place)
-ranText (Packets n) t records = linesIn n records ++ totalsLine t
+ranText (Count n) t records = linesIn n records ++ totalsLine t
 
 -- how many packets it had
-abbrev pub packetsOf : RunAnswer → ℕ
+abbrev pub packetsOf : CountAnswer → ℕ
 packetsOf (Refused r) = 0
-packetsOf (Packets n) = n
+packetsOf (Count n) = n
 
 -- a run from cleared ends of n slots, with its output after it
 pub record RanCleared (n : ℕ) (policy trace : List ℕ) (ran : Ran) (records : List ℕ) : Type 0 where

@@ -1,6 +1,6 @@
 // What the program's three files say, by their bytes alone.
 use checks::refusal;
-use checks::refusal::Refusal;
+use checks::refusal::CountAnswer;
 use records::layout;
 ghost use mathlib.Core.Path.{_≡_};
 ghost use Rattle.replay_text.specs.Files.{fileAnswer};
@@ -10,34 +10,19 @@ pub const MOST_POLICY_BYTES: usize = layout::RULE_SIZE * layout::MOST_RULES;
 
 pub const MOST_TRACE_BYTES: usize = layout::TRACE_SIZE * layout::MOST_PACKETS;
 
-// A refusal, or the number of slots.
-pub enum FileAnswer {
-    Refused(Refusal),
-    Slots(usize),
-}
-
 // What the files' sizes and slots.txt come to, before any other test: refusal 4, then 2 for the policy, then 2 for the trace.
-pub fn file_answer(slots: &[u8], policy: &[u8], trace: &[u8]) -> FileAnswer
+pub fn file_answer(slots: &[u8], policy: &[u8], trace: &[u8]) -> CountAnswer
     ensures { λ r. ⌜ r ≡ fileAnswer (now (slots .entry)) (now (policy .entry)) (now (trace .entry)) ⌝ }
 {
     let n = lines::slots_text::slot_count(slots);
     if n == 0 {
-        return FileAnswer::Refused(Refusal {
-            number: refusal::BAD_SLOTS,
-            place: 0,
-        });
+        return CountAnswer::Refused(refusal::at_no_place(refusal::BAD_SLOTS));
     }
     if policy.len() > MOST_POLICY_BYTES {
-        return FileAnswer::Refused(Refusal {
-            number: refusal::TOO_MANY,
-            place: 0,
-        });
+        return CountAnswer::Refused(refusal::at_no_place(refusal::TOO_MANY));
     }
     if trace.len() > MOST_TRACE_BYTES {
-        return FileAnswer::Refused(Refusal {
-            number: refusal::TOO_MANY,
-            place: 0,
-        });
+        return CountAnswer::Refused(refusal::at_no_place(refusal::TOO_MANY));
     }
-    FileAnswer::Slots(n)
+    CountAnswer::Count(n)
 }

@@ -1,10 +1,9 @@
 // What the program prints, written into a lent output, from the bytes of its three files.
 pub mod files;
 
-use crate::files::FileAnswer;
+use checks::refusal::CountAnswer;
 use records::layout;
 use run::Ran;
-use run::RunAnswer;
 use text::LINE_SIZE;
 use text::Line;
 use totals::Totals;
@@ -36,8 +35,8 @@ fn put_ran(ran: Ran, records: &[u8], out: &mut [u8]) -> usize
 {
     let answer = ran.answer;
     match answer {
-        RunAnswer::Refused(refusal) => lines::put::put_line(lines::refusal_line(refusal), out, 0),
-        RunAnswer::Packets(count) => {
+        CountAnswer::Refused(refusal) => lines::put::put_line(lines::refusal_line(refusal), out, 0),
+        CountAnswer::Count(count) => {
             let at = lines::put::put_outcomes(records, count, out);
             lines::put::put_line(totals_line(ran.totals), out, at)
         }
@@ -100,7 +99,7 @@ pub fn text(slots: &[u8], policy: &[u8], trace: &[u8], out: &mut [u8]) -> usize
     ensures { λ r. ⌜ TextPut (replayText (now (slots .entry)) (now (policy .entry)) (now (trace .entry))) (now (out .entry)) r (now (out .exit)) ⌝ }
 {
     match crate::files::file_answer(slots, policy, trace) {
-        FileAnswer::Refused(refusal) => lines::put::put_line(lines::refusal_line(refusal), out, 0),
-        FileAnswer::Slots(n) => put_run(n, policy, trace, out),
+        CountAnswer::Refused(refusal) => lines::put::put_line(lines::refusal_line(refusal), out, 0),
+        CountAnswer::Count(n) => put_run(n, policy, trace, out),
     }
 }

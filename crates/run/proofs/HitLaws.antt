@@ -24,7 +24,7 @@ use Rattle.table.specs.declared.LookupAnswer.{LookupAnswer}
 use Rattle.table.specs.declared.LookupAnswer.the-variants.{Hit}
 use Rattle.table.proofs.ModelLaws.{good-lookup, looked-up}
 use Rattle.keeper.specs.Reports.{Reported}
-use Rattle.keeper.specs.declared.ReportAnswer.{ReportAnswer}
+use Rattle.checks.specs.declared.refusal.Verdict.{Verdict}
 use Rattle.run.proofs.SendLaws.{same-ends, told-fits, reported-to}
 use Rattle.run.specs.Packets.{FinePacket, PacketDone, missedOutcome, missedEnds, packetOutcome, packetEnds}
 
@@ -46,7 +46,7 @@ module _ {policy key table keeper out table′ out′ : List ℕ} {r : LookupAns
   found-in {slot} none e = let z : _≡_ {A = ℕ} 0 1 = cc in absurd (omega arith)
   found-in {slot} (some i) e = let s : i ≡ slot = cc in (ap some s, rw (← s) cc, rw (← s) cc)
 
-  pub packet-hit : {slot rule action : ℕ} {keeper′ : List ℕ} {a : ReportAnswer} → r ≡ Hit slot rule action → length table′ ≡ length table
+  pub packet-hit : {slot rule action : ℕ} {keeper′ : List ℕ} {a : Verdict} → r ≡ Hit slot rule action → length table′ ≡ length table
       → Bytes table′ → Reported keeper out′ a keeper′
       → PacketDone (packetOutcome policy key table keeper) (packetEnds policy key table keeper)
       (record { outcome = 1; action = action; rule = rule; slot = slot; evicted = nothing }) table′ keeper′

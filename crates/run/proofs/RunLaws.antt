@@ -17,8 +17,8 @@ use Rattle.buffers.specs.Parts.{spelled}
 use Rattle.records.specs.Layout.{traceSize, outcomeSize, mostPackets}
 use Rattle.records.specs.Traces.{packetCount, keys}
 use Rattle.checks.specs.declared.refusal.Refusal.{Refusal}
-use Rattle.checks.specs.Refusals.{partsOf}
-use Rattle.checks.proofs.RefusalLaws.{none-first, need-none, parts-refused}
+use Rattle.checks.specs.Refusals.{verdictOf}
+use Rattle.checks.proofs.RefusalLaws.{none-first, need-none, verdict-refused}
 use Rattle.end_records.specs.Slots.{encodeSlot}
 use Rattle.checks.specs.BufferRefusals.{slotsRefusal}
 use Rattle.records.specs.SlotBuffers.{WholeSlots}
@@ -32,9 +32,9 @@ use Rattle.totals.proofs.SumLaws.{fit-most}
 use Rattle.run.specs.Steps.{RunFits, RanOver}
 use Rattle.run.specs.Refusals.{traceRefusal, endsRefusal, runRefusal}
 use Rattle.run.specs.Runs.{RunResult, runOf, RunIs}
-use Rattle.checks.specs.declared.refusal.Parts.{Parts}
-use Rattle.checks.specs.declared.refusal.Parts.the-variants.{Refused as PartRefused}
-use Rattle.run.specs.declared.RunAnswer.the-variants.{Refused, Packets}
+use Rattle.checks.specs.declared.refusal.Verdict.{Verdict}
+use Rattle.checks.specs.declared.refusal.Verdict.the-variants.{Refused as PartRefused}
+use Rattle.checks.specs.declared.refusal.CountAnswer.the-variants.{Refused, Count}
 
 -- ---- where no part is refused
 
@@ -92,15 +92,15 @@ module _ (policy trace table keeper out : List ℕ) (t : TotalsStruct) where
   abbrev refused : Option Refusal
   refused = runRefusal policy trace table keeper (length out) (asTotals t)
 
-  pub run-refused : {r : Refusal} {a : Parts} → a ≡ partsOf refused → a ≡ PartRefused r
+  pub run-refused : {r : Refusal} {a : Verdict} → a ≡ verdictOf refused → a ≡ PartRefused r
       → RunIs policy trace table keeper out (asTotals t) (record { answer = Refused r; totals = t }) table keeper out
   unfolding runOf
-  run-refused e s = let o = parts-refused refused e s in record { whole = rw o; meaning = rw o }
+  run-refused e s = let o = verdict-refused refused e s in record { whole = rw o; meaning = rw o }
 
   pub run-ran : {s : TotalsStruct} {table′ keeper′ out′ : List ℕ} → refused ≡ none
       → RanOver policy (keys keySize trace) table keeper out (asTotals t) table′ keeper′ out′ (asTotals s)
       → length table′ ≡ length table → Bytes table′ → length keeper′ ≡ length keeper → Bytes keeper′
-      → RunIs policy trace table keeper out (asTotals t) (record { answer = Packets (packetCount keySize trace); totals = s }) table′ keeper′ out′
+      → RunIs policy trace table keeper out (asTotals t) (record { answer = Count (packetCount keySize trace); totals = s }) table′ keeper′ out′
   unfolding runOf
   run-ran {table′ = table′} {keeper′} o did l h m g =
       let w = run-fits policy trace table keeper out (asTotals t) o .0 in
@@ -109,6 +109,6 @@ module _ (policy trace table keeper out : List ℕ) (t : TotalsStruct) where
             (same-shown refl (did .sums)
             (sym (spelled-back table′ l (w .table-whole) h) ∙ ap (λ (e : Ends). spelled encodeSlot (e .table)) (did .ends))
             (sym (spelled-back keeper′ m (w .keeper-whole) g) ∙ ap (λ (e : Ends). spelled encodeSlot (e .keeper)) (did .ends))
-            (did .told));
+            (did .out-after));
         meaning = rw o (did .ends);
       }

@@ -25,12 +25,13 @@ use Rattle.end_records.proofs.WriteLaws.{decode-encode-write, length-encode-wri
 use Rattle.end_records.proofs.ReportLaws.{decode-encode-report}
 use Rattle.table.proofs.SlotReports.{report-fits}
 use Rattle.table.specs.Writes.{writeCallRefusal, Received, slotsAfterWrite}
-use Rattle.table.specs.declared.WriteAnswer.{WriteAnswer}
-use Rattle.table.specs.declared.WriteAnswer.the-variants.{Refused, Taken}
-use Rattle.table.proofs.WriteLaws.{good-call, taken-refused, taken-passed}
+use Rattle.checks.specs.declared.refusal.Verdict.{Verdict}
+use Rattle.checks.specs.declared.refusal.Verdict.the-variants.{Refused, Fine}
+use Rattle.checks.proofs.RefusalLaws.{verdict-refused, verdict-fine}
+use Rattle.table.proofs.WriteLaws.{good-call}
 use Rattle.table.proofs.ModelLaws.{taken-here, taken-there, received}
 use Rattle.keeper.specs.Reports.{numbered, reportRefused, Reported}
-use Rattle.keeper.specs.declared.ReportAnswer.{ReportAnswer}
+use Rattle.checks.specs.declared.refusal.Verdict.{Verdict}
 use Rattle.keeper.proofs.ReportLaws.{report-meaning}
 use Rattle.run.specs.Send.{endsIn, WholeEnds, sentEnds}
 
@@ -58,7 +59,7 @@ module _ (keeper : List ℕ) (x : Report) (whole : WholeSlots keeper) (f : Repor
       report-meaning keeper (encodeReport x) whole (unfold encodeReport in refl) (unfold encodeReport in refl) (unfold encodeReport in refl)
       ∙ ap (λ (y : Report). numbered (reportRefusal k y)) (decode-encode-report x f)
 
-  pub reported-to : {message keeper′ : List ℕ} {r : ReportAnswer} → message ≡ encodeReport x → Reported keeper message r keeper′
+  pub reported-to : {message keeper′ : List ℕ} {r : Verdict} → message ≡ encodeReport x → Reported keeper message r keeper′
       → slots keySize keeper′ ≡ reportedTo k x (reportRefusal k x)
   reported-to {keeper′ = keeper′} e is =
       let told : slots keySize keeper′ ≡ unlessRefused (reportRefused keeper (encodeReport x)) k (afterReport k (decodeReport (encodeReport x))) =
@@ -68,7 +69,7 @@ module _ (keeper : List ℕ) (x : Report) (whole : WholeSlots keeper) (f : Repor
 
 -- ---- a write goes to the table
 
-module _ {table keeper m out table′ out′ : List ℕ} {r : WriteAnswer} {w : Write}
+module _ {table keeper m out table′ out′ : List ℕ} {r : Verdict} {w : Write}
     (ends : WholeEnds table keeper) (f : WriteFits keySize w) (spells : m ≡ encodeWrite w) (room : length out ≡ reportSize)
     (is : Received table m out r table′ out′) where
   abbrev t : List Slot
@@ -93,14 +94,14 @@ module _ {table keeper m out table′ out′ : List ℕ} {r : WriteAnswer} {w : 
   pub sent-refused : {q : Refusal} → r ≡ Refused q → endsIn table′ keeper ≡ sentEnds table keeper w
   unfolding slotsAfterWrite
   sent-refused {q} e =
-      let s : writeCallRefusal table m (length out) ≡ some q = taken-refused _ _ (sym e ∙ is .answer) in
+      let s : writeCallRefusal table m (length out) ≡ some q = verdict-refused _ (is .answer) e in
       same-ends refl (rw s at (is .meaning)) ∙ sym (kept (writeRefusal positions t w) refl s)
 
-  pub sent-taken : {keeper′ : List ℕ} {a : ReportAnswer} → r ≡ Taken → length table′ ≡ length table → Bytes table′
+  pub sent-taken : {keeper′ : List ℕ} {a : Verdict} → r ≡ Fine → length table′ ≡ length table → Bytes table′
       → Reported keeper out′ a keeper′ → endsIn table′ keeper′ ≡ sentEnds table keeper w
   unfolding writeReport
   sent-taken {keeper′} e l h reported =
-      let fine : writeCallRefusal table m (length out) ≡ none = taken-passed _ (sym e ∙ is .answer) in
+      let fine : writeCallRefusal table m (length out) ≡ none = verdict-fine _ (is .answer) e in
       let taken : writeRefusal positions t w ≡ none = rw means at (taken-there table m (length out) fine) in
       let did = received is fine in
       let after : slots keySize table′ ≡ afterWrite t w = rw means at (did .1) in

@@ -50,7 +50,7 @@ module _ {policy bs table keeper out key : List ℕ} {i : ℕ}
       → PacketDone (packetOutcome policy key table keeper) (packetEnds policy key table keeper) x table′ keeper′
       → out′ ≡ splice (outcomeSize * i) (encodeOutcome x) out → t′ ≡ totalsAfter t (x ∷ [])
       → Stepped policy (keyIn keySize bs i) i table keeper out t table′ keeper′ out′ t′
-  stepped did told sums = rw (← e) (record { ends = did .ends; told = rw (← did .outcome) told; sums = rw (← did .outcome) sums })
+  stepped did told sums = rw (← e) (record { ends = did .ends; out-after = rw (← did .outcome) told; sums = rw (← did .outcome) sums })
 
 -- ---- all steps
 
@@ -66,7 +66,7 @@ module _ (n : ℕ) (p : PolicyView) (key : Key) (e : Ends) where
 -- nothing was run
 ran-none : (policy table keeper out : List ℕ) (t : Totals) → RanOver policy [] table keeper out t table keeper out t
 unfolding trace outcomes spelled splice
-ran-none policy table keeper out t = record { ends = refl; told = refl; sums = sym (totals-none t) }
+ran-none policy table keeper out t = record { ends = refl; out-after = refl; sums = sym (totals-none t) }
 
 -- the first i packets of a trace were run, and no buffer's length has changed
 pub record SoFar (policy bs : List ℕ) (i : ℕ) (table keeper out : List ℕ) (t : Totals) (table₁ keeper₁ out₁ : List ℕ) (t₁ : Totals) : Type 0 where
@@ -149,8 +149,8 @@ module _ {policy bs table keeper out table₁ keeper₁ out₁ : List ℕ} {t t�
 
     next-out : out₂ ≡ splice 0 (spelled encodeOutcome (os ++ (o ∷ []))) out
     next-out =
-        did .told
-        ∙ ap (splice (outcomeSize * i) (encodeOutcome o)) (is .ran .told)
+        did .out-after
+        ∙ ap (splice (outcomeSize * i) (encodeOutcome o)) (is .ran .out-after)
         ∙ splice-next 0 (outcomeSize * i) (spelled encodeOutcome os) (encodeOutcome o) out
         (omega (arith, length-spelled encodeOutcome outcomeSize length-outcome os, many)) (omega (arith, length-outcome o, l, room))
         ∙ ap (λ (s : List ℕ). splice 0 s out) (sym (spelled-more encodeOutcome os o))
@@ -164,7 +164,7 @@ module _ {policy bs table keeper out table₁ keeper₁ out₁ : List ℕ} {t t�
     far-more a b c =
         record {
           below = omega (arith, l);
-          ran = rw next (record { ends = next-ends; told = rw next-told next-out; sums = rw next-told next-sums });
+          ran = rw next (record { ends = next-ends; out-after = rw next-told next-out; sums = rw next-told next-sums });
           table-long = a ∙ is .table-long;
           keeper-long = b ∙ is .keeper-long;
           out-long = c ∙ is .out-long;

@@ -9,12 +9,12 @@ use Rattle.ternary.specs.Sizes.{keySize, positions}
 use Rattle.end_records.specs.Slots.{slots}
 use Rattle.records.specs.SlotBuffers.{WholeSlots}
 use Rattle.miss.specs.Decision.{policyView}
-use Rattle.miss.specs.Decide.{Fine, missIn}
+use Rattle.miss.specs.Decide.{FineMiss, missIn}
 use Rattle.run.specs.Send.{endsIn}
 
 -- as much as one packet needs of its parts; a run's refusals ask for more
 pub record FinePacket (policy key table keeper : List ℕ) : Type 0 where
-  pub fine : Fine policy key keeper
+  pub fine : FineMiss policy key keeper
   pub table-whole : WholeSlots table
 
 -- what became of a packet: its outcome, and what the two ends then hold

@@ -1,27 +1,24 @@
 -- How a run is refused, in the order of the tests. Assumes nothing.
-use mathlib.Core.Bool.{not}
 use mathlib.Core.List.{List}
-use mathlib.Core.Option.{Option, none, some}
-use Prim.Native.Nat.{ℕ, _*_, _%_}
-use lib.Dec.{leb, ltb, eqb}
+use mathlib.Core.Option.{Option, none}
+use Prim.Native.Nat.{ℕ, _*_}
+use lib.Dec.{leb, eqb}
 use lib.ListN.{length}
 use Rattle.ends.specs.Records.{Totals}
-use Rattle.model.specs.Refusals.{ragged, tooMany, lengthsDiffer, totalsFull, shortOutput}
+use Rattle.model.specs.Refusals.{lengthsDiffer, totalsFull, shortOutput}
 use Rattle.ternary.specs.Sizes.{keySize}
 use Rattle.records.specs.Layout.{traceSize, outcomeSize, mostPackets}
 use Rattle.records.specs.Traces.{packetCount}
 use Rattle.checks.specs.Refusals.{orElse, need}
 use Rattle.checks.specs.declared.refusal.Refusal.{Refusal}
-use Rattle.checks.specs.Flawed.{firstFlawed, traceFlawAt, flawRefusal}
+use Rattle.checks.specs.Flawed.{traceFlawAt, recordsRefusal}
 use Rattle.checks.specs.BufferRefusals.{slotsRefusal}
 use Rattle.policy.specs.Refusals.{policyRefusal}
 use Rattle.totals.specs.Sums.{totalsFit}
 
 -- trace 1, 2, 3
 unfoldable pub traceRefusal : List ℕ → Option Refusal
-traceRefusal bs =
-    need (eqb (length bs % traceSize keySize) 0) ragged
-    (need (not (ltb mostPackets (packetCount keySize bs))) tooMany (flawRefusal (firstFlawed (traceFlawAt keySize bs) (packetCount keySize bs))))
+traceRefusal bs = recordsRefusal (traceSize keySize) mostPackets (traceFlawAt keySize bs) bs
 
 -- table 4; keeper 4; 12
 unfoldable pub endsRefusal : List ℕ → List ℕ → Option Refusal

@@ -17,8 +17,8 @@ use Rattle.totals.specs.Sums.{asTotals}
 use Rattle.run.specs.Send.{endsIn}
 use Rattle.run.specs.Steps.{toldBy, endsAfter}
 use Rattle.run.specs.Refusals.{runRefusal}
-use Rattle.run.specs.declared.RunAnswer.{RunAnswer}
-use Rattle.run.specs.declared.RunAnswer.the-variants.{Refused, Packets}
+use Rattle.checks.specs.declared.refusal.CountAnswer.{CountAnswer}
+use Rattle.checks.specs.declared.refusal.CountAnswer.the-variants.{Refused, Count}
 use Rattle.run.specs.declared.Ran.{Ran}
 
 -- the model's run over the decoded bytes: its outcomes, and the two ends after it
@@ -30,7 +30,7 @@ endsOf policy trace table keeper = endsAfter policy table keeper (keys keySize t
 
 -- all that a call resultOf: the answer, the totals, and the bytes of the three buffers
 pub record RunResult : Type 0 where
-  pub answer : RunAnswer
+  pub answer : CountAnswer
   pub totals : Totals
   pub table : List ℕ
   pub keeper : List ℕ
@@ -41,7 +41,7 @@ abbrev pub runResultOf : Option Refusal → List ℕ → List ℕ → List ℕ �
 runResultOf (some r) policy trace table keeper out t = record { answer = Refused r; totals = t; table = table; keeper = keeper; out = out }
 runResultOf none policy trace table keeper out t =
     record {
-      answer = Packets (packetCount keySize trace);
+      answer = Count (packetCount keySize trace);
       totals = totalsAfter t (outcomesOf policy trace table keeper);
       table = spelled encodeSlot (endsOf policy trace table keeper .table);
       keeper = spelled encodeSlot (endsOf policy trace table keeper .keeper);

@@ -29,7 +29,7 @@ pub record RunFits (policy trace table keeper out : List ℕ) : Type 0 where
 -- one step, of the packet whose outcome is the i-th: what became of the two ends, the outcome's bytes, and the totals
 pub record Stepped (policy key : List ℕ) (i : ℕ) (table keeper out : List ℕ) (t : Totals) (table′ keeper′ out′ : List ℕ) (t′ : Totals) : Type 0 where
   pub ends : endsIn table′ keeper′ ≡ packetEnds policy key table keeper
-  pub told : out′ ≡ splice (outcomeSize * i) (encodeOutcome (packetOutcome policy key table keeper)) out
+  pub out-after : out′ ≡ splice (outcomeSize * i) (encodeOutcome (packetOutcome policy key table keeper)) out
   pub sums : t′ ≡ totalsAfter t (packetOutcome policy key table keeper ∷ [])
 
 -- what a run of these keys tells, and what becomes of the two ends
@@ -43,5 +43,5 @@ endsAfter policy table keeper ks = trace positions (policyView policy) (endsIn t
 pub record RanOver (policy : List ℕ) (ks : List Key) (table keeper out : List ℕ) (t : Totals)
     (table′ keeper′ out′ : List ℕ) (t′ : Totals) : Type 0 where
   pub ends : endsIn table′ keeper′ ≡ endsAfter policy table keeper ks
-  pub told : out′ ≡ splice 0 (spelled encodeOutcome (toldBy policy table keeper ks)) out
+  pub out-after : out′ ≡ splice 0 (spelled encodeOutcome (toldBy policy table keeper ks)) out
   pub sums : t′ ≡ totalsAfter t (toldBy policy table keeper ks)

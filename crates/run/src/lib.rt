@@ -4,22 +4,16 @@ pub mod refusals;
 pub mod send;
 pub mod steps;
 
-use checks::refusal::Parts;
-use checks::refusal::Refusal;
+use checks::refusal::CountAnswer;
+use checks::refusal::Verdict;
 use records::layout;
 use totals::Totals;
 ghost use Rattle.totals.specs.Sums.{asTotals};
 ghost use Rattle.run.specs.Runs.{RunIs};
 
-// A run's refusal, or how many packets it had.
-pub enum RunAnswer {
-    Refused(Refusal),
-    Packets(usize),
-}
-
 // What a run answers, and the totals after it; a refusal leaves them as they were.
 pub struct Ran {
-    pub answer: RunAnswer,
+    pub answer: CountAnswer,
     pub totals: Totals,
 }
 
@@ -36,7 +30,7 @@ pub fn run(
     ensures { λ r. ⌜ RunIs (now (policy .entry)) (now (trace .entry)) (now (table .entry)) (now (keeper .entry)) (now (out .entry))
         (asTotals totals) r (now (table .exit)) (now (keeper .exit)) (now (out .exit)) ⌝ }
 {
-    if let Parts::Refused(refusal) = crate::refusals::check_run(
+    if let Verdict::Refused(refusal) = crate::refusals::check_run(
         policy,
         trace,
         table,
@@ -45,13 +39,13 @@ pub fn run(
         totals,
     ) {
         return Ran {
-            answer: RunAnswer::Refused(refusal),
+            answer: CountAnswer::Refused(refusal),
             totals,
         };
     }
     let sums = crate::steps::all_packets(policy, trace, table, keeper, out, totals);
     Ran {
-        answer: RunAnswer::Packets(trace.len() / layout::TRACE_SIZE),
+        answer: CountAnswer::Count(trace.len() / layout::TRACE_SIZE),
         totals: sums,
     }
 }

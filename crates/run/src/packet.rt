@@ -29,7 +29,11 @@ pub fn one_packet(policy: &[u8], key: &[u8], table: &mut [u8], keeper: &mut [u8]
         (asOutcome r) (now (table .exit)) (now (keeper .exit)) ⌝ }
 {
     let mut report = [0; layout::REPORT_SIZE];
-    if let table::LookupAnswer::Hit(slot, rule, action) = table::lookup(key, table, &mut report) {
+    if let table::LookupAnswer::Hit { slot, rule, action } = table::lookup(
+        key,
+        table,
+        &mut report,
+    ) {
         keeper::report(keeper, &report);
         return Outcome {
             outcome: records::kinds::HIT,

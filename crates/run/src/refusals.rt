@@ -1,18 +1,18 @@
 // How a run is refused.
 use checks::refusal;
-use checks::refusal::Parts;
-use checks::refusal::Refusal;
+use checks::refusal::CountAnswer;
+use checks::refusal::Verdict;
 use checks::refusal::refused;
 use records::layout;
 use totals::Totals;
 ghost use mathlib.Core.Path.{_≡_};
-ghost use Rattle.checks.specs.Refusals.{partsOf};
+ghost use Rattle.checks.specs.Refusals.{verdictOf};
 ghost use Rattle.totals.specs.Sums.{asTotals};
 ghost use Rattle.run.specs.Refusals.{traceRefusal, endsRefusal, runRefusal};
 
 // Whether a trace is refused: 1, 2 and 3, the last with the place of the first flawed record.
-fn check_trace(trace: &[u8]) -> Parts
-    ensures { λ r. ⌜ r ≡ partsOf (traceRefusal (now (trace .entry))) ⌝ }
+fn check_trace(trace: &[u8]) -> Verdict
+    ensures { λ r. ⌜ r ≡ verdictOf (traceRefusal (now (trace .entry))) ⌝ }
 {
     if trace.len() % layout::TRACE_SIZE != 0 {
         return refused(refusal::RAGGED);
@@ -20,18 +20,12 @@ fn check_trace(trace: &[u8]) -> Parts
     if trace.len() / layout::TRACE_SIZE > layout::MOST_PACKETS {
         return refused(refusal::TOO_MANY);
     }
-    match checks::flawed::first_flawed_packet(trace) {
-        checks::flawed::Checked::AllClean => Parts::Fine,
-        checks::flawed::Checked::Flawed(i, _) => Parts::Refused(Refusal {
-            number: refusal::BAD_RECORD,
-            place: i,
-        }),
-    }
+    checks::flawed::flaw_verdict(checks::flawed::first_flawed_packet(trace))
 }
 
 // Whether the two ends are refused: 4 of the table, 4 of the keeper, 12.
-fn check_ends(table: &[u8], keeper: &[u8]) -> Parts
-    ensures { λ r. ⌜ r ≡ partsOf (endsRefusal (now (table .entry)) (now (keeper .entry))) ⌝ }
+fn check_ends(table: &[u8], keeper: &[u8]) -> Verdict
+    ensures { λ r. ⌜ r ≡ verdictOf (endsRefusal (now (table .entry)) (now (keeper .entry))) ⌝ }
 {
     if !checks::buffer::slots_fit(table) {
         return refused(refusal::BAD_SLOTS);
@@ -42,7 +36,7 @@ fn check_ends(table: &[u8], keeper: &[u8]) -> Parts
     if table.len() != keeper.len() {
         return refused(refusal::LENGTHS_DIFFER);
     }
-    Parts::Fine
+    Verdict::Fine
 }
 
 // Whether a run is refused, with an output of `out_len` bytes: 1, 2 and 3 of the policy, those of the trace and of the two ends, 13, 5.
@@ -53,18 +47,18 @@ pub fn check_run(
     keeper: &[u8],
     out_len: usize,
     totals: Totals,
-) -> Parts
-    ensures { λ r. ⌜ r ≡ partsOf (runRefusal (now (policy .entry)) (now (trace .entry)) (now (table .entry)) (now (keeper .entry))
+) -> Verdict
+    ensures { λ r. ⌜ r ≡ verdictOf (runRefusal (now (policy .entry)) (now (trace .entry)) (now (table .entry)) (now (keeper .entry))
         «out_len» (asTotals totals)) ⌝ }
 {
-    if let policy::PolicyAnswer::Refused(refusal) = policy::check(policy) {
-        return Parts::Refused(refusal);
+    if let CountAnswer::Refused(refusal) = policy::check(policy) {
+        return Verdict::Refused(refusal);
     }
-    if let Parts::Refused(refusal) = check_trace(trace) {
-        return Parts::Refused(refusal);
+    if let Verdict::Refused(refusal) = check_trace(trace) {
+        return Verdict::Refused(refusal);
     }
-    if let Parts::Refused(refusal) = check_ends(table, keeper) {
-        return Parts::Refused(refusal);
+    if let Verdict::Refused(refusal) = check_ends(table, keeper) {
+        return Verdict::Refused(refusal);
     }
     if !totals::totals_fit(totals) {
         return refused(refusal::TOTALS_FULL);
@@ -72,5 +66,5 @@ pub fn check_run(
     if out_len < layout::OUTCOME_SIZE * (trace.len() / layout::TRACE_SIZE) {
         return refused(refusal::SHORT_OUTPUT);
     }
-    Parts::Fine
+    Verdict::Fine
 }

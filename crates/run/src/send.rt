@@ -1,4 +1,5 @@
 // A write is sent: delivered at once, and so is its report.
+use checks::refusal::Verdict;
 use end_records::write::Write;
 use records::layout;
 ghost use mathlib.Core.Path.{_≡_};
@@ -12,7 +13,7 @@ pub fn send_write(w: Write, table: &mut [u8], keeper: &mut [u8])
 {
     let message = end_records::write::write_bytes(w);
     let mut back = [0; layout::REPORT_SIZE];
-    if let table::WriteAnswer::Taken = table::write(table, &message, &mut back) {
+    if let Verdict::Fine = table::write(table, &message, &mut back) {
         keeper::report(keeper, &back);
     }
 }

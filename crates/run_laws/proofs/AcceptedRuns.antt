@@ -25,8 +25,8 @@ use Rattle.miss.specs.Decision.{policyView}
 use Rattle.run.specs.Send.{endsIn}
 use Rattle.run.specs.Refusals.{runRefusal}
 use Rattle.run.specs.Runs.{outcomesOf, endsOf, RunResult, runResultOf, runOf, endsLeft}
-use Rattle.run.specs.declared.RunAnswer.{RunAnswer}
-use Rattle.run.specs.declared.RunAnswer.the-variants.{Refused, Packets}
+use Rattle.checks.specs.declared.refusal.CountAnswer.{CountAnswer}
+use Rattle.checks.specs.declared.refusal.CountAnswer.the-variants.{Refused, Count}
 use Rattle.run_laws.specs.Calls.{PastRun, Made, left, outcomesIn}
 
 -- what an accepted call of n packets left
@@ -46,7 +46,7 @@ module _ (t : Totals) (c : PastRun) (is : Made t c) where
   abbrev shown : Option Refusal → RunResult
   shown o = runResultOf o (c .policy) (c .trace) (c .table) (c .keeper) (c .out) t
 
-  packets-fine : (o : Option Refusal) {n : ℕ} → Packets n ≡ shown o .answer → o ≡ none
+  packets-fine : (o : Option Refusal) {n : ℕ} → Count n ≡ shown o .answer → o ≡ none
   packets-fine (some r) e = let z : _≡_ {A = ℕ} 0 1 = cc in absurd (omega arith)
   packets-fine none e = refl
 
@@ -63,11 +63,11 @@ module _ (t : Totals) (c : PastRun) (is : Made t c) where
   answer-of : c .ran .answer ≡ shown refusedWith .answer
   answer-of = ap (λ (s : RunResult). s .answer) (whole-of refusedWith refl)
 
-  pub accepted-run : {n : ℕ} → c .ran .answer ≡ Packets n → AcceptedRun t c n
+  pub accepted-run : {n : ℕ} → c .ran .answer ≡ Count n → AcceptedRun t c n
   accepted-run {n} a =
       let fine : refusedWith ≡ none = packets-fine refusedWith (sym a ∙ answer-of) in
       let w = whole-of none fine in
-      let count : Packets n ≡ Packets (packetCount keySize (c .trace)) = sym a ∙ ap (λ (s : RunResult). s .answer) w in
+      let count : Count n ≡ Count (packetCount keySize (c .trace)) = sym a ∙ ap (λ (s : RunResult). s .answer) w in
       record {
         fine = fine;
         count = cc;
@@ -131,8 +131,8 @@ unfolding totalsAfter
 read-totals t os = rw (read-length os, read-count isHit os, read-count isMiss os, read-count isNoRule os, read-count isEviction os)
 
 -- so the totals after a call are those of the outcomes that its output tells
-pub told-totals : (t : Totals) (c : PastRun) → Made t c → (a : RunAnswer) → c .ran .answer ≡ a → left c ≡ totalsAfter t (outcomesIn a (c .out′))
+pub told-totals : (t : Totals) (c : PastRun) → Made t c → (a : CountAnswer) → c .ran .answer ≡ a → left c ≡ totalsAfter t (outcomesIn a (c .out′))
 told-totals t c is (Refused r) e = refused-run t c is e ∙ sym (totals-none t)
-told-totals t c is (Packets n) e =
+told-totals t c is (Count n) e =
     let h = accepted-run t c is e in
     h .sums ∙ sym (ap (totalsAfter t) (read-back h) ∙ read-totals t (outcomesOf (c .policy) (c .trace) (c .table) (c .keeper)))

@@ -20,8 +20,8 @@ use Rattle.totals.specs.Sums.{asTotals}
 use Rattle.miss.specs.Decision.{policyView}
 use Rattle.run.specs.Send.{endsIn}
 use Rattle.run.proofs.RunLaws.{run-whole}
-use Rattle.run.specs.declared.RunAnswer.{RunAnswer}
-use Rattle.run.specs.declared.RunAnswer.the-variants.{Refused, Packets}
+use Rattle.checks.specs.declared.refusal.CountAnswer.{CountAnswer}
+use Rattle.checks.specs.declared.refusal.CountAnswer.the-variants.{Refused, Count}
 use Rattle.run_laws.specs.Calls.{PastRun, Made, left, InTurn, lastOf, toldIn, TotalsPromise}
 use Rattle.run_laws.specs.Calls.{Part, pastRun, AcceptedPart, Successive, lastPart, joined, toldBytes, CutPromise}
 use Rattle.run_laws.proofs.AcceptedRuns.{AcceptedRun, accepted-run, refused-run, told-bytes, told-totals}
@@ -33,9 +33,9 @@ unfolding totalsOver
 over t [] is = refl
 over t (c ∷ cs) is = over (left c) cs (is .1) ∙ ap (λ (x : Totals). totalsOver x (map toldIn cs)) (told-totals t c (is .0) (c .ran .answer) refl)
 
-balanced-call : (t : Totals) (c : PastRun) → Made t c → (a : RunAnswer) → c .ran .answer ≡ a → Balanced t → Balanced (left c)
+balanced-call : (t : Totals) (c : PastRun) → Made t c → (a : CountAnswer) → c .ran .answer ≡ a → Balanced t → Balanced (left c)
 balanced-call t c is (Refused r) e h = subst Balanced (sym (refused-run t c is e)) h
-balanced-call t c is (Packets n) e h =
+balanced-call t c is (Count n) e h =
     subst Balanced (sym (accepted-run t c is e .sums))
     (balance-law positions (policyView (c .policy)) (endsIn (c .table) (c .keeper)) (keys keySize (c .trace)) t h)
 

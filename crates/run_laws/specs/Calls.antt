@@ -10,8 +10,8 @@ use Rattle.records.specs.Layout.{outcomeSize}
 use Rattle.records.specs.Outcomes.{decodeOutcome}
 use Rattle.totals.specs.Sums.{asTotals}
 use Rattle.run.specs.Runs.{RunIs}
-use Rattle.run.specs.declared.RunAnswer.{RunAnswer}
-use Rattle.run.specs.declared.RunAnswer.the-variants.{Refused, Packets}
+use Rattle.checks.specs.declared.refusal.CountAnswer.{CountAnswer}
+use Rattle.checks.specs.declared.refusal.CountAnswer.the-variants.{Refused, Count}
 use Rattle.run.specs.declared.Ran.{Ran}
 
 -- a call that was made: the buffers that it was lent, what it answered, and the buffers after it
@@ -46,9 +46,9 @@ lastOf t [] = t
 lastOf t (c ∷ cs) = lastOf (left c) cs
 
 -- the outcomes that the output's bytes tell, where the call was accepted
-abbrev pub outcomesIn : RunAnswer → List ℕ → List Outcome
+abbrev pub outcomesIn : CountAnswer → List ℕ → List Outcome
 outcomesIn (Refused r) out = []
-outcomesIn (Packets n) out = recordsIn outcomeSize decodeOutcome n out
+outcomesIn (Count n) out = recordsIn outcomeSize decodeOutcome n out
 
 abbrev pub toldIn : PastRun → List Outcome
 toldIn c = outcomesIn (c .ran .answer) (c .out′)
@@ -88,7 +88,7 @@ pastRun policy table keeper x =
 
 -- with that policy, from those ends and totals, the call did what the run promises, and was accepted
 abbrev pub AcceptedPart : List ℕ → List ℕ → List ℕ → Totals → Part → Type 0
-AcceptedPart policy table keeper t x = (count : ℕ) × (x .ran .answer ≡ Packets count) × Made t (pastRun policy table keeper x)
+AcceptedPart policy table keeper t x = (count : ℕ) × (x .ran .answer ≡ Count count) × Made t (pastRun policy table keeper x)
 
 -- calls in succession: each goes on with the ends and the totals that the one before it left
 abbrev pub Successive : List ℕ → List ℕ → List ℕ → Totals → List Part → Type 0
@@ -105,9 +105,9 @@ abbrev pub joined : List Part → List ℕ
 joined xs = flatten (map (λ (x : Part). x .trace) xs)
 
 -- the outcomes that a call told, byte by byte
-abbrev pub packetsIn : RunAnswer → ℕ
+abbrev pub packetsIn : CountAnswer → ℕ
 packetsIn (Refused r) = 0
-packetsIn (Packets n) = n
+packetsIn (Count n) = n
 
 abbrev pub toldBytes : Part → List ℕ
 toldBytes x = take (outcomeSize * packetsIn (x .ran .answer)) (x .out′)

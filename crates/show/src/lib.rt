@@ -1,6 +1,6 @@
 // Showing the decision: the record that decides for a key, lent back from the buffer that holds it.
-use checks::refusal::Parts;
 use checks::refusal::Refusal;
+use checks::refusal::Verdict;
 use records::layout;
 ghost use mathlib.Core.Path.{_≡_};
 ghost use Rattle.show.specs.Answers.{showAnswer, shownPart};
@@ -17,7 +17,7 @@ pub enum ShowAnswer {
 pub fn show_answer(policy: &[u8], key: &[u8], table: &[u8]) -> ShowAnswer
     ensures { λ r. ⌜ r ≡ showAnswer (now (policy .entry)) (now (key .entry)) (now (table .entry)) ⌝ }
 {
-    if let Parts::Refused(refusal) = policy::lent::check_lent(policy, key, table) {
+    if let Verdict::Refused(refusal) = policy::lent::check_lent(policy, key, table) {
         return ShowAnswer::Refused(refusal);
     }
     if let slots::find::SlotFound::At(i) = slots::find::first_slot_for(table, key) {
@@ -25,7 +25,7 @@ pub fn show_answer(policy: &[u8], key: &[u8], table: &[u8]) -> ShowAnswer
     }
     match policy::search::best_rule(policy, key) {
         policy::search::BestFound::NoRule => ShowAnswer::NoRule,
-        policy::search::BestFound::Rule(number, _) => ShowAnswer::FromPolicy(number),
+        policy::search::BestFound::Rule { number, .. } => ShowAnswer::FromPolicy(number),
     }
 }
 

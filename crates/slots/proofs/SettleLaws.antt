@@ -27,10 +27,10 @@ module _ (keeper : List ℕ) (x : Report) where
     unfolding reportBytes afterReport
     taken-current s c put =
         let t : isCurrent k x ≡ true = rw there (eq-eqb (x .sequence) (old .sequence) s) in
-        record { bytes = rw (t, there, ← c, ← e) (put .bytes); meaning = rw (t, there, ← c, ← e) (put .meaning) }
+        record { keeper-after = rw (t, there, ← c, ← e) (put .bytes); meaning = rw (t, there, ← c, ← e) (put .meaning) }
 
     pub taken-older : x .sequence ≢ old .sequence → ReportTaken keeper x keeper
     unfolding reportBytes afterReport
     taken-older s =
         let t : isCurrent k x ≡ false = rw there (ne-eqb (x .sequence) (old .sequence) s) in
-        record { bytes = rw t; meaning = rw t }
+        record { keeper-after = rw t; meaning = rw t }

@@ -24,7 +24,7 @@ module _ (table : List ℕ) (w : Write) (old : Slot) where
   stored-kept l e le =
       let there : old ≡ slotAt (slots keySize table) (w .slot) = e ∙ sym (slot-at keySize table (w .slot) l) in
       let same : isNewer (slots keySize table) w ≡ false = rw (← there) (le-ltb (old .sequence) (w .sequence) le) in
-      record { slot = rw same there; bytes = rw same; meaning = rw same }
+      record { slot = rw same there; table-after = rw same; meaning = rw same }
 
   -- it is greater
   pub stored-new : (new : Slot) (after : List ℕ) → w .slot < slotCount keySize table → old ≡ slotIn keySize table (w .slot)
@@ -36,6 +36,6 @@ module _ (table : List ℕ) (w : Write) (old : Slot) where
       let inside : w .slot < length (slots keySize table) = omega (arith, slot-count keySize table) in
       record {
         slot = rw newer (p .slot ∙ sym (getD-set-same (slots keySize table) (w .slot) (written (entryIn w)) (cleared 0) inside));
-        bytes = rw newer (rw (p .slot) at (p .put .bytes));
+        table-after = rw newer (rw (p .slot) at (p .put .bytes));
         meaning = rw newer (rw (p .slot) at (p .put .meaning));
       }

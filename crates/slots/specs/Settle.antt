@@ -16,5 +16,5 @@ reportBytes keeper x =
 
 -- what it is to take a report: the keeper's bytes after it, and that their slots are as the model has them
 pub record ReportTaken (keeper : List ℕ) (x : Report) (keeper′ : List ℕ) : Type 0 where
-  pub bytes : keeper′ ≡ reportBytes keeper x
+  pub keeper-after : keeper′ ≡ reportBytes keeper x
   pub meaning : slots keySize keeper′ ≡ afterReport (slots keySize keeper) x

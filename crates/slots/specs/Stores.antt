@@ -15,5 +15,5 @@ storedBytes table w = cond (isNewer (slots keySize table) w) (putSlot keySize ta
 -- what it is to store a write, whose slot then is x
 pub record Stored (table : List ℕ) (w : Write) (x : Slot) (after : List ℕ) : Type 0 where
   pub slot : x ≡ slotAt (afterWrite (slots keySize table) w) (w .slot)
-  pub bytes : after ≡ storedBytes table w
+  pub table-after : after ≡ storedBytes table w
   pub meaning : slots keySize after ≡ afterWrite (slots keySize table) w

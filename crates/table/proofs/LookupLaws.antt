@@ -81,13 +81,13 @@ module _ (key table out : List ℕ) where
   unfolding findAnswer lookupAnswer slotsAfterLookup tableAfterLookup outAfterLookup
   looked-refused r e =
       let refused = of-refused (lookupRefusal key table (length out)) (firstFor positions (slots keySize table) key) r e in
-      record { answer = rw refused; bytes = rw refused; meaning = rw refused; told = rw refused }
+      record { answer = rw refused; table-after = rw refused; meaning = rw refused; out-after = rw refused }
 
   pub looked-missed : FoundMiss ≡ findAnswer key table (length out) → LookedUp key table out Miss table out
   unfolding findAnswer lookupAnswer slotsAfterLookup tableAfterLookup outAfterLookup lookup afterLookup
   looked-missed e =
       let m = of-miss (lookupRefusal key table (length out)) (firstFor positions (slots keySize table) key) e in
-      record { answer = rw (m .0, m .1); bytes = rw (m .0, m .1); meaning = rw (m .0, m .1); told = rw (m .0, m .1) }
+      record { answer = rw (m .0, m .1); table-after = rw (m .0, m .1); meaning = rw (m .0, m .1); out-after = rw (m .0, m .1) }
 
   pub looked-hit : (i : ℕ) (x : Slot) (table′ out′ : List ℕ) → FoundSlot i ≡ findAnswer key table (length out) → Counted table i x table′
       → out′ ≡ splice 0 (encodeReport (reportFor i x)) out
@@ -100,7 +100,7 @@ module _ (key table out : List ℕ) where
       in
       record {
         answer = rw (m .0, m .1, there);
-        bytes = rw (m .0, m .1) (rw there at (c .put .bytes));
+        table-after = rw (m .0, m .1) (rw there at (c .put .bytes));
         meaning = rw (m .0, m .1) (rw there at (c .put .meaning));
-        told = rw (m .0, m .1) (t ∙ ap (λ (y : Slot). splice 0 (encodeReport (reportFor i y)) out) there);
+        out-after = rw (m .0, m .1) (t ∙ ap (λ (y : Slot). splice 0 (encodeReport (reportFor i y)) out) there);
       }

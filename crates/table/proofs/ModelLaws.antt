@@ -29,8 +29,8 @@ use Rattle.table.specs.Lookups.{hitRefusal, lookupRefusal, GoodLookup, l
 use Rattle.table.specs.Lookups.{lookupAnswer, slotsAfterLookup, outAfterLookup, LookedUp}
 use Rattle.table.specs.Writes.{writeCallRefusal, GoodWrite, slotsAfterWrite, outAfterWrite, Received}
 use Rattle.table.specs.declared.LookupAnswer.{LookupAnswer}
-use Rattle.table.specs.declared.WriteAnswer.{WriteAnswer}
-use Rattle.table.specs.declared.WriteAnswer.the-variants.{Taken}
+use Rattle.checks.specs.declared.refusal.Verdict.{Verdict}
+use Rattle.checks.specs.declared.refusal.Verdict.the-variants.{Fine}
 use Rattle.table.proofs.LookupLaws.{lookup-whole, hit-long}
 use Rattle.table.proofs.WriteLaws.{good-call}
 
@@ -97,11 +97,11 @@ module _ {key table out table′ out′ : List ℕ} {r : LookupAnswer} (is : Loo
       → (r ≡ lookupAnswerOf none (lookup positions (slots keySize table) key)) × (slots keySize table′ ≡ afterLookup positions (slots keySize table) key)
       × (out′ ≡ toldOf (lookup positions (slots keySize table) key) out)
   unfolding lookupAnswer slotsAfterLookup outAfterLookup
-  looked-up e = (rw e at (is .answer), rw e at (is .meaning), rw e at (is .told))
+  looked-up e = (rw e at (is .answer), rw e at (is .meaning), rw e at (is .out-after))
 
-module _ {table m out table′ out′ : List ℕ} {r : WriteAnswer} (is : Received table m out r table′ out′) where
+module _ {table m out table′ out′ : List ℕ} {r : Verdict} (is : Received table m out r table′ out′) where
   pub received : writeCallRefusal table m (length out) ≡ none
-      → (r ≡ Taken) × (slots keySize table′ ≡ afterWrite (slots keySize table) (decodeWrite keySize m))
+      → (r ≡ Fine) × (slots keySize table′ ≡ afterWrite (slots keySize table) (decodeWrite keySize m))
       × (out′ ≡ splice 0 (encodeReport (writeReport (slots keySize table) (decodeWrite keySize m))) out)
   unfolding slotsAfterWrite outAfterWrite
-  received e = (rw e at (is .answer), rw e at (is .meaning), rw e at (is .told))
+  received e = (rw e at (is .answer), rw e at (is .meaning), rw e at (is .out-after))

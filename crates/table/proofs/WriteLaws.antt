@@ -2,7 +2,7 @@
 use mathlib.Core.Path.{_≡_, refl}
 use mathlib.Core.Bool.{not}
 use mathlib.Core.List.{List}
-use mathlib.Core.Option.{Option, none, some}
+use mathlib.Core.Option.{none}
 use mathlib.Core.Logic.{_↔_}
 use Prim.Native.Nat.{ℕ}
 use native.Mathlib.Omega.{arith}
@@ -18,26 +18,18 @@ use Rattle.records.specs.Layout.{writeKind, isWrite, writeSize, reportSize}
 use Rattle.checks.specs.Flaws.{isFlawed, writeFlaw}
 use Rattle.checks.specs.declared.refusal.Refusal.{Refusal}
 use Rattle.checks.proofs.CleanLaws.{clean-of}
-use Rattle.checks.proofs.RefusalLaws.{none-first, need-none}
+use Rattle.checks.proofs.RefusalLaws.{none-first, need-none, verdict-refused, verdict-fine}
 use Rattle.records.specs.SlotBuffers.{slotCount}
 use Rattle.checks.specs.BufferRefusals.{slotsRefusal}
 use Rattle.checks.proofs.FitLaws.{slots-accepted}
 use Rattle.end_records.specs.Writes.{decodeWrite}
 use Rattle.end_records.specs.Reports.{encodeReport}
 use Rattle.slots.specs.Stores.{Stored}
-use Rattle.table.specs.Writes.{writeMessageRefusal, writeCallRefusal, takenOf, GoodWrite, GoodCall}
-use Rattle.table.specs.Writes.{slotsAfterWrite, tableAfterWrite, outAfterWrite, Received}
-use Rattle.table.specs.declared.WriteAnswer.the-variants.{Refused, Taken}
+use Rattle.table.specs.Writes.{writeMessageRefusal, writeCallRefusal, GoodWrite, GoodCall, slotsAfterWrite, tableAfterWrite, outAfterWrite, Received}
+use Rattle.checks.specs.Refusals.{verdictOf}
+use Rattle.checks.specs.declared.refusal.Verdict.the-variants.{Refused, Fine}
 
 -- ---- what the answer says
-
-pub taken-refused : (o : Option Refusal) (r : Refusal) → Refused r ≡ takenOf o → o ≡ some r
-taken-refused (some x) r e = cc
-taken-refused none r e = let z : _≡_ {A = ℕ} 0 1 = cc in absurd (omega arith)
-
-pub taken-passed : (o : Option Refusal) → Taken ≡ takenOf o → o ≡ none
-taken-passed (some x) e = let z : _≡_ {A = ℕ} 0 1 = cc in absurd (omega arith)
-taken-passed none e = refl
 
 -- ---- which writes are not refused
 
@@ -83,27 +75,27 @@ module _ (table m : List ℕ) (outLen : ℕ) where
     λ h. rw (slots-accepted table .1 (h .whole), good-write m (slotCount keySize table) .1 (h .good), le-leb _ _ (h .fits)),
   )
 
-  pub taken-good : Taken ≡ takenOf (writeCallRefusal table m outLen) → GoodCall table m outLen
-  taken-good e = good-call .0 (taken-passed (writeCallRefusal table m outLen) e)
+  pub taken-good : Fine ≡ verdictOf (writeCallRefusal table m outLen) → GoodCall table m outLen
+  taken-good e = good-call .0 (verdict-fine (writeCallRefusal table m outLen) e refl)
 
 -- ---- the call
 
 module _ (table m out : List ℕ) where
-  pub received-refused : (r : Refusal) → Refused r ≡ takenOf (writeCallRefusal table m (length out)) → Received table m out (Refused r) table out
+  pub received-refused : (r : Refusal) → Refused r ≡ verdictOf (writeCallRefusal table m (length out)) → Received table m out (Refused r) table out
   unfolding slotsAfterWrite tableAfterWrite outAfterWrite
   received-refused r e =
-      let refused = taken-refused (writeCallRefusal table m (length out)) r e in
-      record { answer = rw refused; bytes = rw refused; meaning = rw refused; told = rw refused }
+      let refused = verdict-refused (writeCallRefusal table m (length out)) e refl in
+      record { answer = rw refused; table-after = rw refused; meaning = rw refused; out-after = rw refused }
 
-  pub received-taken : (w : Write) (x : Slot) (table′ out′ : List ℕ) → Taken ≡ takenOf (writeCallRefusal table m (length out))
+  pub received-taken : (w : Write) (x : Slot) (table′ out′ : List ℕ) → Fine ≡ verdictOf (writeCallRefusal table m (length out))
       → w ≡ decodeWrite keySize m → Stored table w x table′ → out′ ≡ splice 0 (encodeReport (reportFor (w .slot) x)) out
-      → Received table m out Taken table′ out′
+      → Received table m out Fine table′ out′
   unfolding slotsAfterWrite tableAfterWrite outAfterWrite writeReport
   received-taken w x table′ out′ e d s t =
-      let good : writeCallRefusal table m (length out) ≡ none = taken-passed (writeCallRefusal table m (length out)) e in
+      let good : writeCallRefusal table m (length out) ≡ none = verdict-fine (writeCallRefusal table m (length out)) e refl in
       record {
         answer = rw good;
-        bytes = rw good (rw d at (s .bytes));
+        table-after = rw good (rw d at (s .table-after));
         meaning = rw good (rw d at (s .meaning));
-        told = rw (good, ← d, ← s .slot) t;
+        out-after = rw (good, ← d, ← s .slot) t;
       }

@@ -90,6 +90,6 @@ outAfterLookup key table out =
 -- what a lookup is: its answer r, and the buffers after it
 pub record LookedUp (key table out : List ℕ) (r : LookupAnswer) (table′ out′ : List ℕ) : Type 0 where
   pub answer : r ≡ lookupAnswer key table (length out)
-  pub bytes : table′ ≡ tableAfterLookup key table (length out)
+  pub table-after : table′ ≡ tableAfterLookup key table (length out)
   pub meaning : slots keySize table′ ≡ slotsAfterLookup key table (length out)
-  pub told : out′ ≡ outAfterLookup key table out
+  pub out-after : out′ ≡ outAfterLookup key table out

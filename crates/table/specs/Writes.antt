@@ -2,7 +2,7 @@
 use mathlib.Core.Path.{_≡_}
 use mathlib.Core.Bool.{not}
 use mathlib.Core.List.{List}
-use mathlib.Core.Option.{Option, none, some}
+use mathlib.Core.Option.{Option, none}
 use Prim.Native.Nat.{ℕ, _≤_, _<_}
 use lib.Dec.{ltb, eqb}
 use lib.ListN.{length, getD}
@@ -12,7 +12,7 @@ use Rattle.ends.specs.Ends.{afterWrite, writeReport}
 use Rattle.ternary.specs.Sizes.{keySize}
 use Rattle.buffers.specs.Parts.{splice}
 use Rattle.records.specs.Layout.{writeKind, isWrite, writeSize, reportSize}
-use Rattle.checks.specs.Refusals.{orElse, need, unlessRefused}
+use Rattle.checks.specs.Refusals.{orElse, need, unlessRefused, verdictOf}
 use Rattle.checks.specs.Flaws.{isFlawed, writeFlaw}
 use Rattle.checks.specs.declared.refusal.Refusal.{Refusal}
 use Rattle.checks.specs.declared.flaw.Flaw.the-variants.{Clean}
@@ -23,8 +23,7 @@ use Rattle.end_records.specs.Writes.{decodeWrite}
 use Rattle.end_records.specs.Reports.{encodeReport}
 use Rattle.table.specs.Lookups.{shortForReport}
 use Rattle.slots.specs.Stores.{storedBytes}
-use Rattle.table.specs.declared.WriteAnswer.{WriteAnswer}
-use Rattle.table.specs.declared.WriteAnswer.the-variants.{Refused, Taken}
+use Rattle.checks.specs.declared.refusal.Verdict.{Verdict}
 
 -- message 1, 8, 3, 9, 10, where the table has `count` slots
 unfoldable pub writeMessageRefusal : List ℕ → ℕ → Option Refusal
@@ -39,11 +38,6 @@ writeMessageRefusal m count =
 unfoldable pub writeCallRefusal : List ℕ → List ℕ → ℕ → Option Refusal
 writeCallRefusal table m outLen =
     orElse (slotsRefusal table) (orElse (writeMessageRefusal m (slotCount keySize table)) (shortForReport outLen))
-
--- the refusal, or that it is taken
-abbrev pub takenOf : Option Refusal → WriteAnswer
-takenOf (some r) = Refused r
-takenOf none = Taken
 
 -- the slots after it, and the table's bytes; a refusal changes none
 unfoldable pub slotsAfterWrite : List ℕ → List ℕ → ℕ → List Slot
@@ -61,11 +55,11 @@ outAfterWrite table m out =
     (splice 0 (encodeReport (writeReport (slots keySize table) (decodeWrite keySize m))) out)
 
 -- what it is to receive a write: the answer r, and the buffers after it
-pub record Received (table m out : List ℕ) (r : WriteAnswer) (table′ out′ : List ℕ) : Type 0 where
-  pub answer : r ≡ takenOf (writeCallRefusal table m (length out))
-  pub bytes : table′ ≡ tableAfterWrite table m (length out)
+pub record Received (table m out : List ℕ) (r : Verdict) (table′ out′ : List ℕ) : Type 0 where
+  pub answer : r ≡ verdictOf (writeCallRefusal table m (length out))
+  pub table-after : table′ ≡ tableAfterWrite table m (length out)
   pub meaning : slots keySize table′ ≡ slotsAfterWrite table m (length out)
-  pub told : out′ ≡ outAfterWrite table m out
+  pub out-after : out′ ≡ outAfterWrite table m out
 
 -- what a write is that a table of `count` slots does not refuse
 pub record GoodWrite (m : List ℕ) (count : ℕ) : Type 0 where

@@ -6,6 +6,7 @@ use crate::lookups::Found;
 use crate::lookups::find;
 use crate::writes::write_answer;
 use checks::refusal::Refusal;
+use checks::refusal::Verdict;
 ghost use Rattle.table.specs.Lookups.{LookedUp};
 ghost use Rattle.table.specs.Writes.{Received};
 
@@ -13,7 +14,7 @@ ghost use Rattle.table.specs.Writes.{Received};
 pub enum LookupAnswer {
     Refused(Refusal),
     Miss,
-    Hit(u16, u16, u16),
+    Hit { slot: u16, rule: u16, action: u16 },
 }
 
 // Looks a key up: a hit is counted, and its report goes to the start of `out`. A miss and a refusal (1 of the key, 4, 5) change nothing.
@@ -31,24 +32,22 @@ pub fn lookup(key: &[u8], table: &mut [u8], out: &mut [u8]) -> LookupAnswer
                 hits: x.hits,
             };
             end_records::report::put_report(out, report);
-            LookupAnswer::Hit(i as u16, x.rule, x.action)
+            LookupAnswer::Hit {
+                slot: i as u16,
+                rule: x.rule,
+                action: x.action,
+            }
         }
     }
 }
 
-// A write's refusal, or that it is taken.
-pub enum WriteAnswer {
-    Refused(Refusal),
-    Taken,
-}
-
 // Receives a write: a newer one replaces its slot, and the report of the slot as it then is goes to the start of `out`. A refusal changes
 // nothing.
-pub fn write(table: &mut [u8], message: &[u8], out: &mut [u8]) -> WriteAnswer
+pub fn write(table: &mut [u8], message: &[u8], out: &mut [u8]) -> Verdict
     ensures { λ r. ⌜ Received (now (table .entry)) (now (message .entry)) (now (out .entry)) r (now (table .exit)) (now (out .exit)) ⌝ }
 {
-    if let WriteAnswer::Refused(refusal) = write_answer(table, message, out.len()) {
-        return WriteAnswer::Refused(refusal);
+    if let Verdict::Refused(refusal) = write_answer(table, message, out.len()) {
+        return Verdict::Refused(refusal);
     }
     let w = end_records::write::write_of(message);
     let x = slots::entry::store_newer(table, w);
@@ -58,5 +57,5 @@ pub fn write(table: &mut [u8], message: &[u8], out: &mut [u8]) -> WriteAnswer
         hits: x.hits,
     };
     end_records::report::put_report(out, report);
-    WriteAnswer::Taken
+    Verdict::Fine
 }

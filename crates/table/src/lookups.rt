@@ -17,16 +17,10 @@ pub(crate) fn find(key: &[u8], table: &[u8], out_len: usize) -> Found
     ensures { λ r. ⌜ r ≡ findAnswer (now (key .entry)) (now (table .entry)) «out_len» ⌝ }
 {
     if key.len() != layout::KEY_SIZE {
-        return Found::Refused(Refusal {
-            number: refusal::RAGGED,
-            place: 0,
-        });
+        return Found::Refused(refusal::at_no_place(refusal::RAGGED));
     }
     if !checks::buffer::slots_fit(table) {
-        return Found::Refused(Refusal {
-            number: refusal::BAD_SLOTS,
-            place: 0,
-        });
+        return Found::Refused(refusal::at_no_place(refusal::BAD_SLOTS));
     }
     // Lent anew, as a part: a slice handed on as it came is copied whole first, and a lookup that hits would wait for that copy.
     let all = &key[0..layout::KEY_SIZE];
@@ -34,10 +28,7 @@ pub(crate) fn find(key: &[u8], table: &[u8], out_len: usize) -> Found
         slots::find::SlotFound::Nowhere => Found::Miss,
         slots::find::SlotFound::At(i) => {
             if out_len < layout::REPORT_SIZE {
-                Found::Refused(Refusal {
-                    number: refusal::SHORT_OUTPUT,
-                    place: 0,
-                })
+                Found::Refused(refusal::at_no_place(refusal::SHORT_OUTPUT))
             } else {
                 Found::Slot(i)
             }

@@ -1,6 +1,8 @@
 // Asks the two ends the questions of cases.bin about the parts of buffers.bin, and prints a line for each: its label, the answer, each slot
 // that changed, the answer's bytes in the output, and `changed` where another byte of the output did.
 // tests/data/ends_cases.py says how the two files are laid out, and makes them.
+use checks::refusal::CountAnswer;
+use checks::refusal::Verdict;
 use records::layout;
 use test_cases::files;
 use test_cases::parts::byte;
@@ -38,7 +40,7 @@ fn say_lookup(answer: table::LookupAnswer) -> usize {
             say(b" miss");
             0
         }
-        table::LookupAnswer::Hit(slot, rule, action) => {
+        table::LookupAnswer::Hit { slot, rule, action } => {
             say_hit(slot, rule, action);
             layout::REPORT_SIZE
         }
@@ -52,13 +54,13 @@ fn say_hit(slot: u16, rule: u16, action: u16) {
     );
 }
 
-fn say_write(answer: table::WriteAnswer) -> usize {
+fn say_write(answer: Verdict) -> usize {
     match answer {
-        table::WriteAnswer::Refused(r) => {
+        Verdict::Refused(r) => {
             say_refused(r);
             0
         }
-        table::WriteAnswer::Taken => {
+        Verdict::Fine => {
             say(b" taken");
             layout::REPORT_SIZE
         }
@@ -98,26 +100,26 @@ fn write_length(outcome: u8) -> usize {
     }
 }
 
-fn say_report(answer: keeper::ReportAnswer) -> usize {
+fn say_report(answer: Verdict) -> usize {
     match answer {
-        keeper::ReportAnswer::Refused(r) => {
+        Verdict::Refused(r) => {
             say_refused(r);
             0
         }
-        keeper::ReportAnswer::Taken => {
+        Verdict::Fine => {
             say(b" taken");
             0
         }
     }
 }
 
-fn say_open(answer: lists::ListAnswer) -> usize {
+fn say_open(answer: CountAnswer) -> usize {
     match answer {
-        lists::ListAnswer::Refused(r) => {
+        CountAnswer::Refused(r) => {
             say_refused(r);
             0
         }
-        lists::ListAnswer::Count(n) => {
+        CountAnswer::Count(n) => {
             say_word(b" open ", n);
             twice(n)
         }

@@ -1,5 +1,7 @@
 // Asks the library the questions of cases.bin about the policies of policies.bin, and prints a line for each: its label and the answer.
 // tests/data/policy_cases.py says how the two files are laid out, and makes them.
+use checks::refusal::CountAnswer;
+use checks::refusal::Verdict;
 use test_cases::files;
 use test_cases::parts::byte;
 use test_cases::parts::number;
@@ -27,10 +29,10 @@ const LENGTHS: usize = 1;
 
 // Each of the following says what a call answers.
 
-fn say_check(answer: policy::PolicyAnswer) {
+fn say_check(answer: CountAnswer) {
     match answer {
-        policy::PolicyAnswer::Refused(r) => say_refused(r),
-        policy::PolicyAnswer::Rules(n) => say_word(b" rules ", n),
+        CountAnswer::Refused(r) => say_refused(r),
+        CountAnswer::Count(n) => say_word(b" rules ", n),
     }
 }
 
@@ -38,29 +40,29 @@ fn say_best(answer: policy::BestAnswer) {
     match answer {
         policy::BestAnswer::Refused(r) => say_refused(r),
         policy::BestAnswer::NoRule => say(b" none"),
-        policy::BestAnswer::Rule(number, action) => {
+        policy::BestAnswer::Rule { number, action } => {
             say_numbers(b" rule # action #", &[number as u64, action as u64]);
         }
     }
 }
 
 // The record with the answer beside it.
-fn say_record(answer: policy::record::RecordAnswer, record: &[u8]) {
+fn say_record(answer: Verdict, record: &[u8]) {
     match answer {
-        policy::record::RecordAnswer::Refused(r) => say_refused(r),
-        policy::record::RecordAnswer::Shown => say(b" "),
+        Verdict::Refused(r) => say_refused(r),
+        Verdict::Fine => say(b" "),
     }
     say_bytes(b"", record);
 }
 
 // Gives how many numbers the output has.
-fn say_cover(answer: lists::ListAnswer) -> usize {
+fn say_cover(answer: CountAnswer) -> usize {
     match answer {
-        lists::ListAnswer::Refused(r) => {
+        CountAnswer::Refused(r) => {
             say_refused(r);
             0
         }
-        lists::ListAnswer::Count(n) => {
+        CountAnswer::Count(n) => {
             say(b" covers");
             n
         }
@@ -90,12 +92,12 @@ fn ask_cover(policy: &[u8], number: usize, room: usize) {
 }
 
 fn say_isolated(answer: isolate::IsolateAnswer) {
-    let said = answer.said;
+    let verdict = answer.verdict;
     let value = answer.value;
     let mask = answer.mask;
-    match said {
-        isolate::Said::Refused(r) => say_refused(r),
-        isolate::Said::Isolated => {
+    match verdict {
+        Verdict::Refused(r) => say_refused(r),
+        Verdict::Fine => {
             say_bytes(b" value ", &value);
             say_bytes(b" mask ", &mask);
             say_numbers(

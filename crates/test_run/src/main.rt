@@ -1,6 +1,7 @@
 // Makes the runs of cases.bin over the parts of buffers.bin, and prints a line for each: its label, the answer, the totals, each slot of the
 // table and of the keeper that changed, the outcomes' bytes, and `changed` where another byte of the output did.
 // tests/data/run_cases.py says how the two files are laid out, and makes them.
+use checks::refusal::CountAnswer;
 use records::layout;
 use test_cases::files;
 use test_cases::parts::number;
@@ -60,13 +61,13 @@ fn say_totals(t: Totals) {
 }
 
 // Says what a run answers, and gives how many bytes of the output are its outcomes.
-fn say_answer(answer: run::RunAnswer) -> usize {
+fn say_answer(answer: CountAnswer) -> usize {
     match answer {
-        run::RunAnswer::Refused(r) => {
+        CountAnswer::Refused(r) => {
             say_refused(r);
             0
         }
-        run::RunAnswer::Packets(n) => {
+        CountAnswer::Count(n) => {
             say_word(b" packets ", n);
             bytes_of(n)
         }

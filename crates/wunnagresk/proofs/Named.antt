@@ -7,22 +7,22 @@ use Rattle.ternary.specs.Sizes.{keySize}
 use Rattle.buffers.specs.Parts.{chunk}
 use Rattle.records.specs.Layout.{ruleSize}
 use Rattle.checks.specs.declared.refusal.Refusal.{Refusal}
-use Rattle.checks.specs.Refusals.{unlessRefused}
-use Rattle.policy.specs.RecordAnswers.{recordRefusal, recordOf, recordAnswer, shownRecord}
+use Rattle.checks.specs.Refusals.{unlessRefused, verdictOf}
+use Rattle.policy.specs.RecordAnswers.{recordRefusal, recordAnswer, shownRecord}
 use Rattle.show.specs.Answers.{partOf, showAnswer, shownPart}
 use Rattle.show.specs.declared.ShowAnswer.{ShowAnswer}
 use Rattle.show.specs.declared.ShowAnswer.the-variants.{Refused, NoRule, FromTable, FromPolicy}
-use Rattle.c_answers.specs.Parts.{recordNumbers, shownNumbers}
+use Rattle.c_answers.specs.Parts.{recordForC, showForC}
 use Rattle.wunnagresk.specs.Named.{shownAt, recordAt, NamedParts}
 
-of-answer : (policy table : List ℕ) (a : ShowAnswer) → shownAt policy table (shownNumbers a) ≡ partOf policy table a
+of-answer : (policy table : List ℕ) (a : ShowAnswer) → shownAt policy table (showForC a) ≡ partOf policy table a
 of-answer policy table (Refused r) = refl
 of-answer policy table NoRule = refl
 of-answer policy table (FromTable i) = refl
 of-answer policy table (FromPolicy r) = refl
 
 of-record : (policy : List ℕ) (number : ℕ) (o : Option Refusal)
-    → recordAt policy (recordNumbers (recordOf o) number) ≡ unlessRefused o [] (chunk (ruleSize keySize) policy number)
+    → recordAt policy (recordForC (verdictOf o) number) ≡ unlessRefused o [] (chunk (ruleSize keySize) policy number)
 of-record policy number (some r) = refl
 of-record policy number none = refl
 

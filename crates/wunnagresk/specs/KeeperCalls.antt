@@ -10,8 +10,7 @@ use Rattle.buffers.specs.Parts.{splice}
 use Rattle.end_records.specs.Slots.{slots}
 use Rattle.end_records.specs.Reports.{decodeReport}
 use Rattle.lists.specs.Written.{numberBytes}
-use Rattle.lists.specs.Answers.{answerOf as listAnswerOf}
-use Rattle.checks.specs.Refusals.{unlessRefused}
+use Rattle.checks.specs.Refusals.{countAnswerOf, unlessRefused}
 use Rattle.slots.specs.Settle.{reportBytes}
 use Rattle.keeper.specs.Reports.{reportRefused, reportAnswer}
 use Rattle.keeper.specs.Opens.{openIn, openRefusal}
@@ -20,8 +19,7 @@ use Rattle.miss.specs.Decide.{missIn}
 use Rattle.miss.specs.Carry.{missAnswerOf}
 use Rattle.miss.specs.declared.carry.MissAnswer.{MissAnswer}
 use Rattle.miss.specs.Answers.{missRefused, missBytes, outWith}
-use Rattle.c_answers.specs.Keeper.{outcomeNumbers, reportedNumbers}
-use Rattle.c_answers.specs.Lists.{listNumbers}
+use Rattle.c_answers.specs.Answers.{missForC, doneForC, countForC}
 use Rattle.c_answers.specs.declared.structs.WgCount.{WgCount}
 use Rattle.c_answers.specs.declared.structs.WgDone.{WgDone}
 use Rattle.c_answers.specs.declared.structs.WgOutcome.{WgOutcome}
@@ -32,15 +30,15 @@ missAnswer policy key keeper outLen =
     missAnswerOf (missRefused policy key keeper outLen) (missOutcome (policyView policy) (slots keySize keeper) (missIn policy key keeper))
 
 pub record MissCall (policy key keeper out : List ℕ) (r : WgOutcome) (keeper′ out′ : List ℕ) : Type 0 where
-  pub numbers : r ≡ outcomeNumbers (missAnswer policy key keeper (length out))
-  pub bytes : keeper′ ≡ unlessRefused (missRefused policy key keeper (length out)) keeper (missBytes keeper (missIn policy key keeper))
-  pub given : out′ ≡ unlessRefused (missRefused policy key keeper (length out)) out
+  pub answer : r ≡ missForC (missAnswer policy key keeper (length out))
+  pub keeper-after : keeper′ ≡ unlessRefused (missRefused policy key keeper (length out)) keeper (missBytes keeper (missIn policy key keeper))
+  pub out-after : out′ ≡ unlessRefused (missRefused policy key keeper (length out)) out
       (outWith (missWrite (slots keySize keeper) (missIn policy key keeper)) out)
 
 pub record ReportCall (keeper m : List ℕ) (r : WgDone) (keeper′ : List ℕ) : Type 0 where
-  pub numbers : r ≡ reportedNumbers (reportAnswer keeper m)
-  pub bytes : keeper′ ≡ unlessRefused (reportRefused keeper m) keeper (reportBytes keeper (decodeReport m))
+  pub answer : r ≡ doneForC (reportAnswer keeper m)
+  pub keeper-after : keeper′ ≡ unlessRefused (reportRefused keeper m) keeper (reportBytes keeper (decodeReport m))
 
 pub record OpenCall (keeper out : List ℕ) (r : WgCount) (out′ : List ℕ) : Type 0 where
-  pub numbers : r ≡ listNumbers (listAnswerOf (openRefusal keeper (length out)) (length (openIn keeper)))
-  pub written : out′ ≡ unlessRefused (openRefusal keeper (length out)) out (splice 0 (numberBytes (openIn keeper)) out)
+  pub answer : r ≡ countForC (countAnswerOf (openRefusal keeper (length out)) (length (openIn keeper)))
+  pub out-after : out′ ≡ unlessRefused (openRefusal keeper (length out)) out (splice 0 (numberBytes (openIn keeper)) out)

@@ -7,7 +7,7 @@ use lib.Dec.{eqb}
 use Rattle.buffers.specs.Parts.{part}
 use Rattle.policy.specs.RecordAnswers.{recordAnswer, shownRecord}
 use Rattle.show.specs.Answers.{showAnswer, shownPart}
-use Rattle.c_answers.specs.Parts.{recordNumbers, shownNumbers}
+use Rattle.c_answers.specs.Parts.{recordForC, showForC}
 use Rattle.c_answers.specs.declared.structs.WgPart.{WgPart}
 use Rattle.c_answers.specs.declared.structs.WgShown.{WgShown}
 
@@ -23,5 +23,5 @@ recordAt policy s = part (s .length) (s .offset) policy
 
 -- the place that `wg_show` tells is that of the part that is shown, and so is the place that `wg_rule` tells
 pub record NamedParts (policy key table : List ℕ) (number : ℕ) : Type 0 where
-  pub decision : shownAt policy table (shownNumbers (showAnswer policy key table)) ≡ shownPart policy key table
-  pub rule : recordAt policy (recordNumbers (recordAnswer policy number) number) ≡ shownRecord policy number
+  pub decision : shownAt policy table (showForC (showAnswer policy key table)) ≡ shownPart policy key table
+  pub rule : recordAt policy (recordForC (recordAnswer policy number) number) ≡ shownRecord policy number

@@ -4,13 +4,12 @@ use mathlib.Core.List.{List}
 use Prim.Native.Nat.{ℕ}
 use lib.ListN.{length}
 use Rattle.buffers.specs.Parts.{splice}
-use Rattle.checks.specs.Refusals.{unlessRefused}
+use Rattle.checks.specs.Refusals.{unlessRefused, countAnswerOf}
 use Rattle.lists.specs.Written.{numberBytes}
-use Rattle.lists.specs.Answers.{answerOf}
 use Rattle.cover.specs.Answers.{coverRefusal, coverList}
-use Rattle.c_answers.specs.Lists.{listNumbers}
+use Rattle.c_answers.specs.Answers.{countForC}
 use Rattle.c_answers.specs.declared.structs.WgCount.{WgCount}
 
 pub record CoverCall (policy : List ℕ) (number : ℕ) (out : List ℕ) (r : WgCount) (out′ : List ℕ) : Type 0 where
-  pub numbers : r ≡ listNumbers (answerOf (coverRefusal policy number (length out)) (length (coverList policy number)))
-  pub written : out′ ≡ unlessRefused (coverRefusal policy number (length out)) out (splice 0 (numberBytes (coverList policy number)) out)
+  pub answer : r ≡ countForC (countAnswerOf (coverRefusal policy number (length out)) (length (coverList policy number)))
+  pub out-after : out′ ≡ unlessRefused (coverRefusal policy number (length out)) out (splice 0 (numberBytes (coverList policy number)) out)

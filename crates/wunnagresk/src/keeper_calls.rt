@@ -10,7 +10,7 @@ pub extern "C" fn wg_miss(policy: &[u8], key: &[u8], keeper: &mut [u8], out: &mu
     ensures { λ r. ⌜ MissCall (now (policy .entry)) (now (key .entry)) (now (keeper .entry)) (now (out .entry)) r
         (now (keeper .exit)) (now (out .exit)) ⌝ }
 {
-    c_answers::keeper_for_c::outcome_numbers(miss::miss(policy, key, keeper, out))
+    c_answers::outcome::miss_for_c(miss::miss(policy, key, keeper, out))
 }
 
 // A report arrives.
@@ -18,7 +18,7 @@ pub extern "C" fn wg_miss(policy: &[u8], key: &[u8], keeper: &mut [u8], out: &mu
 pub extern "C" fn wg_report(keeper: &mut [u8], message: &[u8]) -> WgDone
     ensures { λ r. ⌜ ReportCall (now (keeper .entry)) (now (message .entry)) r (now (keeper .exit)) ⌝ }
 {
-    c_answers::keeper_for_c::reported_numbers(keeper::report(keeper, message))
+    c_answers::done::done_for_c(keeper::report(keeper, message))
 }
 
 // Writes the numbers of the open slots to the start of `out`, two bytes each.
@@ -26,5 +26,5 @@ pub extern "C" fn wg_report(keeper: &mut [u8], message: &[u8]) -> WgDone
 pub extern "C" fn wg_open(keeper: &[u8], out: &mut [u8]) -> WgCount
     ensures { λ r. ⌜ OpenCall (now (keeper .entry)) (now (out .entry)) r (now (out .exit)) ⌝ }
 {
-    c_answers::list_for_c::list_numbers(keeper::open_list(keeper, out))
+    c_answers::count::count_for_c(keeper::open_list(keeper, out))
 }

@@ -16,7 +16,7 @@ pub extern "C" fn wg_run(
     ensures { λ r. ⌜ RunCall (now (policy .entry)) (now (trace .entry)) (now (table .entry)) (now (keeper .entry)) (now (out .entry))
         (now (totals .entry)) r (now (totals .exit)) (now (table .exit)) (now (keeper .exit)) (now (out .exit)) ⌝ }
 {
-    let told = c_answers::run_for_c::run_with(policy, trace, table, keeper, out, *totals);
+    let told = c_answers::ran::run_with(policy, trace, table, keeper, out, *totals);
     *totals = told.totals;
     told.numbers
 }

@@ -8,7 +8,7 @@ ghost use Rattle.wunnagresk.specs.TableCalls.{LookupCall, WriteCall};
 pub extern "C" fn wg_lookup(key: &[u8], table: &mut [u8], out: &mut [u8]) -> WgFound
     ensures { λ r. ⌜ LookupCall (now (key .entry)) (now (table .entry)) (now (out .entry)) r (now (table .exit)) (now (out .exit)) ⌝ }
 {
-    c_answers::table_for_c::found_numbers(table::lookup(key, table, out))
+    c_answers::lookup::lookup_for_c(table::lookup(key, table, out))
 }
 
 // Receives a write; the report of its slot goes to the start of `out`.
@@ -16,5 +16,5 @@ pub extern "C" fn wg_lookup(key: &[u8], table: &mut [u8], out: &mut [u8]) -> WgF
 pub extern "C" fn wg_write(table: &mut [u8], message: &[u8], out: &mut [u8]) -> WgDone
     ensures { λ r. ⌜ WriteCall (now (table .entry)) (now (message .entry)) (now (out .entry)) r (now (table .exit)) (now (out .exit)) ⌝ }
 {
-    c_answers::table_for_c::written_numbers(table::write(table, message, out))
+    c_answers::done::done_for_c(table::write(table, message, out))
 }

@@ -10,7 +10,7 @@ taken : (c : tie.After-n) → Taken (c .before .before .before .before .before .
 taken c = taken-of (c .before .before .check .ensures) (c .n .given .1)
 
 returns : tie.Need-returns
-returns c = refused-number _ _ _ (taken (c .before .before)) (omega (arith, c .if1 .taken))
+returns c = let i = c .before in rw (c .at-no-place .ensures) (refused-number _ _ _ (taken (i .before .before)) (omega (arith, i .if1 .taken)))
 
 dependents-of-requires : tie.Need-dependents-of-requires
 dependents-of-requires c κs = let is = taken (c .before .before) in (omega (arith, is .counted), is .few)
@@ -33,6 +33,7 @@ pub cover-spec : {M : Type 1} → statement M
 cover-spec =
     tie.close
     (tie.spec
+    (λ c. search needs)
     (λ c. search needs)
     (λ c. search needs)
     (λ c. search needs)

@@ -7,7 +7,7 @@ use Rattle.keeper.proofs.open_list.Statement.{statement}
 use Rattle.keeper.proofs.open_list.Tie as tie
 
 returns : tie.Need-returns
-returns c = refused-slots _ _ (c .before .slots-fit .ensures) (not-true (c .if1 .taken))
+returns c = rw (c .at-no-place .ensures) (refused-slots _ _ (c .before .before .slots-fit .ensures) (not-true (c .before .if1 .taken)))
 
 open-slots-requires : tie.Need-open-slots-requires
 open-slots-requires c κs = few-slots _ (c .before .slots-fit .ensures) (not-false (c .if1 .left))
@@ -28,6 +28,7 @@ pub open-list-spec : {M : Type 1} → statement M
 open-list-spec =
     tie.close
     (tie.spec
+    (λ c. search needs)
     (λ c. search needs)
     returns
     open-slots-requires

@@ -6,7 +6,9 @@ use Rattle.lists.proofs.list_answer.Statement.{statement}
 use Rattle.lists.proofs.list_answer.Tie as tie
 
 returns : tie.Need-returns
-returns c = answered-short _ _ _ (c .before .before .before .pre .1) (omega (arith, c .if1 .taken))
+returns c =
+    let i = c .before in
+    rw (c .at-no-place .ensures) (answered-short _ _ _ (i .before .before .before .pre .1) (omega (arith, i .if1 .taken)))
 
 put-numbers-requires : tie.Need-put-numbers-requires
 put-numbers-requires c κs = let p = c .before .before .before .before .pre in (p .0, p .1, c .before .if1 .left)
@@ -20,6 +22,7 @@ pub list-answer-spec : {M : Type 1} → statement M
 list-answer-spec =
     tie.close
     (tie.spec
+    (λ c. search needs)
     (λ c. search needs)
     returns
     put-numbers-requires

@@ -23,7 +23,7 @@ passed c = check-passed _ _ (sym (c .enum-told .given .1) ∙ c .before .before 
 
 returns-2 : tie.Need-returns-2
 unfolding bestAnswer bestRefusal keyRefusal
-returns-2 c = rw (passed (c .before), ne-eqb _ _ (c .if1 .taken))
+returns-2 c = rw (c .at-no-place .ensures, passed (c .before .before), ne-eqb _ _ (c .before .if1 .taken))
 
 best-rule-requires : tie.Need-best-rule-requires
 best-rule-requires c κs = (passed-few _ (passed (c .before)), c .if1 .left)
@@ -47,6 +47,7 @@ best-spec =
     (λ c. search needs)
     (λ c. search needs)
     returns
+    (λ c. search needs)
     (λ c. search needs)
     returns-2
     best-rule-requires

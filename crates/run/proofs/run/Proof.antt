@@ -6,7 +6,7 @@ use lib.ListN.{length}
 use Rattle.ternary.proofs.ByteLaws.{bytes-of}
 use Rattle.totals.specs.Sums.{asTotals}
 use Rattle.run.specs.Refusals.{runRefusal}
-use Rattle.checks.proofs.RefusalLaws.{parts-none}
+use Rattle.checks.proofs.RefusalLaws.{verdict-fine}
 use Rattle.run.proofs.RunLaws.{run-fits, run-refused, run-ran}
 use Rattle.run.proofs.run.Statement.{statement}
 use Rattle.run.proofs.run.Tie as tie
@@ -17,7 +17,7 @@ returns c = run-refused _ _ _ _ _ _ (c .before .before .before .check-run .ensur
 -- the run is not refused
 fine : (c : tie.After-enum-told) → let a = c .before .before .before .before .before .before .before .before .before .before .args in
     runRefusal (a .policy .now) (a .trace .now) (a .table .now) (a .keeper .now) (length (a .out .now)) (asTotals (a .totals)) ≡ none
-fine c = parts-none _ (c .before .before .check-run .ensures) (c .enum-told .given .1)
+fine c = verdict-fine _ (c .before .before .check-run .ensures) (c .enum-told .given .1)
 
 all-packets-requires : tie.Need-all-packets-requires
 all-packets-requires c κs = run-fits _ _ _ _ _ _ (fine (c .before .before .before))

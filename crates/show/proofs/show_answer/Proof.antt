@@ -5,7 +5,7 @@ use mathlib.Core.Option.{none, some}
 use native.Mathlib.Omega.{arith}
 use Rattle.ends.specs.Ends.{firstFor}
 use Rattle.ternary.specs.Sizes.{keySize, positions}
-use Rattle.checks.proofs.RefusalLaws.{parts-refused, parts-none}
+use Rattle.checks.proofs.RefusalLaws.{verdict-refused, verdict-fine}
 use Rattle.end_records.specs.Slots.{slots}
 use Rattle.slots.proofs.FindLaws.{found-nowhere, found-at, held-few}
 use Rattle.policy.proofs.CheckLaws.{passed-few}
@@ -21,13 +21,13 @@ returns : tie.Need-returns
 unfolding showAnswer
 returns c =
     let a = c .before .before .before .before .before .before .before .args in
-    rw (parts-refused (lentRefusal (a .policy .now) (a .key .now) (a .table .now))
+    rw (verdict-refused (lentRefusal (a .policy .now) (a .key .now) (a .table .now))
     (c .before .before .before .check-lent .ensures) (c .before .refusal .given .1))
 
 -- no part is refused
 fine : (c : tie.After-first-slot-for) → let a = c .before .before .before .before .before .before .before .args in
     lentRefusal (a .policy .now) (a .key .now) (a .table .now) ≡ none
-fine c = parts-none _ (c .before .before .before .check-lent .ensures) (c .before .enum-told .given .1)
+fine c = verdict-fine _ (c .before .before .before .check-lent .ensures) (c .before .enum-told .given .1)
 
 -- the slot that takes the key
 there : (c : tie.After-i) → let a = c .before .before .before .before .before .before .before .before .before .args in
@@ -35,7 +35,7 @@ there : (c : tie.After-i) → let a = c .before .before .before .before .before 
 there c = found-at _ _ (sym (c .i .given .1) ∙ c .before .before .first-slot-for .ensures)
 
 first-slot-for-requires : tie.Need-first-slot-for-requires
-first-slot-for-requires c κs = parts-fine _ _ _ (parts-none _ (c .before .before .check-lent .ensures) (c .enum-told .given .1)) .long
+first-slot-for-requires c κs = parts-fine _ _ _ (verdict-fine _ (c .before .before .check-lent .ensures) (c .enum-told .given .1)) .long
 
 cast-t9 : tie.Need-cast-t9
 cast-t9 c = omega (arith, held-few _ _ _ (there (c .before)) (parts-fine _ _ _ (fine (c .before .before .before)) .whole))

@@ -6,8 +6,9 @@ use lib.ListN.{length}
 use Rattle.ends.specs.Records.{Write}
 use Rattle.end_records.specs.SlotStructs.{asSlot}
 use Rattle.end_records.specs.MessageStructs.{asWrite}
-use Rattle.table.specs.Writes.{writeCallRefusal, takenOf, GoodCall}
-use Rattle.table.specs.declared.WriteAnswer.the-variants.{Taken}
+use Rattle.table.specs.Writes.{writeCallRefusal, GoodCall}
+use Rattle.checks.specs.Refusals.{verdictOf}
+use Rattle.checks.specs.declared.refusal.Verdict.the-variants.{Fine}
 use Rattle.table.proofs.WriteLaws.{taken-good, received-refused, received-taken}
 use Rattle.table.proofs.write.Statement.{statement}
 use Rattle.table.proofs.write.Tie as tie
@@ -17,7 +18,7 @@ returns c = received-refused _ _ _ _ (sym (c .before .refusal .given .1) ∙ c .
 
 -- the write is not refused
 taken : (c : tie.After-enum-told) → let a = c .before .before .before .before .before .before .before .args in
-    Taken ≡ takenOf (writeCallRefusal (a .table .now) (a .message .now) (length (a .out .now)))
+    Fine ≡ verdictOf (writeCallRefusal (a .table .now) (a .message .now) (length (a .out .now)))
 taken c = sym (c .enum-told .given .1) ∙ c .before .before .write-answer .ensures
 
 good : (c : tie.After-enum-told) → let a = c .before .before .before .before .before .before .before .args in

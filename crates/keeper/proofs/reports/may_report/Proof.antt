@@ -5,13 +5,14 @@ use mathlib.Core.Option.{none}
 use Rattle.model.proofs.Cases.{not-true, not-false}
 use Rattle.checks.specs.BufferRefusals.{slotsRefusal}
 use Rattle.keeper.specs.Reports.{bytesRefusal, reportRefused, reportAnswer}
-use Rattle.keeper.proofs.ReportLaws.{of-refused, of-taken, bytes-long}
+use Rattle.checks.proofs.RefusalLaws.{verdict-refused, verdict-fine}
+use Rattle.keeper.proofs.ReportLaws.{bytes-long}
 use Rattle.keeper.proofs.reports.may_report.Statement.{statement}
 use Rattle.keeper.proofs.reports.may_report.Tie as tie
 
 -- the bytes are those of a report
 taken : (c : tie.After-enum-told) → bytesRefusal (c .before .before .before .before .before .before .before .args .message .now) ≡ none
-taken c = of-taken _ (c .before .before .check-bytes .ensures) (c .enum-told .given .1)
+taken c = verdict-fine _ (c .before .before .check-bytes .ensures) (c .enum-told .given .1)
 
 returns : tie.Need-returns
 unfolding reportAnswer reportRefused slotsRefusal
@@ -26,7 +27,7 @@ returns-2 c =
     let b = c .before .before .before in
     let a = b .before .before .before .before .before .args in
     let fits = sym (b .before .before .slots-fit .ensures) ∙ not-false (b .before .if1 .left) in
-    rw (fits, of-refused (bytesRefusal (a .message .now)) (b .check-bytes .ensures) (c .before .r .given .1))
+    rw (fits, verdict-refused (bytesRefusal (a .message .now)) (b .check-bytes .ensures) (c .before .r .given .1))
 
 returns-3 : tie.Need-returns-3
 unfolding reportAnswer reportRefused slotsRefusal

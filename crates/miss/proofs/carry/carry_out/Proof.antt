@@ -12,8 +12,9 @@ returns c = carried-quiet _ _ _ (c .before .gives-write .ensures) (not-true (c .
 
 returns-2 : tie.Need-returns-2
 returns-2 c =
-    let t = c .before in
-    carried-short _ _ _ (t .before .gives-write .ensures) (not-false (t .if1 .left)) (omega (arith, c .if2 .taken))
+    let s = c .before in
+    let t = s .before in
+    rw (c .at-no-place .ensures) (carried-short _ _ _ (t .before .gives-write .ensures) (not-false (t .if1 .left)) (omega (arith, s .if2 .taken)))
 
 put-new-entry-requires : tie.Need-put-new-entry-requires
 put-new-entry-requires c κs =
@@ -35,6 +36,7 @@ carry-out-spec =
     (tie.spec
     (λ c. search needs)
     returns
+    (λ c. search needs)
     returns-2
     put-new-entry-requires
     (λ c. search needs)

@@ -3,7 +3,7 @@ use borrow.Author.Needs.{needs}
 use mathlib.Core.Path.{_≡_, sym, _∙_}
 use borrow.Author.Tests.{lt-ltb, le-ltb}
 use Rattle.policy.specs.Answers.{checkAnswer}
-use Rattle.policy.specs.declared.PolicyAnswer.the-variants.{Rules}
+use Rattle.checks.specs.declared.refusal.CountAnswer.the-variants.{Count}
 use Rattle.policy.proofs.CheckLaws.{check-refused, check-passed, check-count}
 use Rattle.policy.specs.RecordAnswers.{recordRefusal, recordAnswer}
 use Rattle.policy.proofs.record.record_answer.Statement.{statement}
@@ -14,7 +14,7 @@ unfolding recordAnswer recordRefusal
 returns c = rw (check-refused _ _ (sym (c .before .refusal .given .1) ∙ c .before .before .before .check .ensures))
 
 -- the policy is not refused, and has that many rules
-counted : (c : tie.After-count) → Rules (c .count .given .0 .0) ≡ checkAnswer (c .before .before .before .before .args .policy .now)
+counted : (c : tie.After-count) → Count (c .count .given .0 .0) ≡ checkAnswer (c .before .before .before .before .args .policy .now)
 counted c = sym (c .count .given .1) ∙ c .before .before .check .ensures
 
 returns-2 : tie.Need-returns-2
@@ -26,13 +26,14 @@ returns-2 c =
 returns-3 : tie.Need-returns-3
 unfolding recordAnswer recordRefusal
 returns-3 c =
-    let e = counted (c .before .before) in
-    rw (check-passed _ _ e, le-ltb _ _ (rw (check-count _ _ e) at (c .if1 .left)))
+    let e = counted (c .before .before .before) in
+    rw (c .at-no-place .ensures, check-passed _ _ e, le-ltb _ _ (rw (check-count _ _ e) at (c .before .if1 .left)))
 
 pub record-answer-spec : {M : Type 1} → statement M
 record-answer-spec =
     tie.close
     (tie.spec
+    (λ c. search needs)
     (λ c. search needs)
     (λ c. search needs)
     (λ c. search needs)

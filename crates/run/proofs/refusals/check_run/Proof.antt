@@ -4,7 +4,7 @@ use mathlib.Core.Path.{_≡_, sym, _∙_}
 use mathlib.Core.Option.{none, some}
 use borrow.Author.Tests.{le-leb, lt-leb}
 use Rattle.model.proofs.Cases.{not-true, not-false}
-use Rattle.checks.proofs.RefusalLaws.{parts-refused, parts-none}
+use Rattle.checks.proofs.RefusalLaws.{verdict-refused, verdict-fine}
 use Rattle.policy.specs.Refusals.{policyRefusal}
 use Rattle.policy.proofs.CheckLaws.{check-refused, check-passed}
 use Rattle.run.specs.Refusals.{traceRefusal, endsRefusal, runRefusal}
@@ -17,12 +17,12 @@ fine-policy c = check-passed _ _ (sym (c .enum-told .given .1) ∙ c .before .be
 
 fine-trace : (c : tie.After-enum-told2)
     → traceRefusal (c .before .before .before .before .before .before .before .before .before .before .args .trace .now) ≡ none
-fine-trace c = parts-none _ (c .before .before .check-trace .ensures) (c .enum-told2 .given .1)
+fine-trace c = verdict-fine _ (c .before .before .check-trace .ensures) (c .enum-told2 .given .1)
 
 fine-ends : (c : tie.After-enum-told3)
     → let a = c .before .before .before .before .before .before .before .before .before .before .before .before .before .args in
     endsRefusal (a .table .now) (a .keeper .now) ≡ none
-fine-ends c = parts-none _ (c .before .before .check-ends .ensures) (c .enum-told3 .given .1)
+fine-ends c = verdict-fine _ (c .before .before .check-ends .ensures) (c .enum-told3 .given .1)
 
 returns : tie.Need-returns
 unfolding runRefusal
@@ -33,7 +33,7 @@ unfolding runRefusal
 returns-2 c =
     let k = c .before .before .before in
     let a = k .before .before .before .before .before .before .before .before .args in
-    let refused : traceRefusal (a .trace .now) ≡ some _ = parts-refused _ (k .check-trace .ensures) (c .before .refusal2 .given .1) in
+    let refused : traceRefusal (a .trace .now) ≡ some _ = verdict-refused _ (k .check-trace .ensures) (c .before .refusal2 .given .1) in
     rw (fine-policy (k .before), refused)
 
 returns-3 : tie.Need-returns-3
@@ -43,7 +43,7 @@ returns-3 c =
     let e = k .before in
     let a = e .before .before .before .before .before .before .before .before .before .before .args in
     let refused : endsRefusal (a .table .now) (a .keeper .now) ≡ some _ =
-    parts-refused _ (k .check-ends .ensures) (c .before .refusal3 .given .1)
+    verdict-refused _ (k .check-ends .ensures) (c .before .refusal3 .given .1)
     in
     rw (fine-policy (e .before .before .before), fine-trace e, refused)
 

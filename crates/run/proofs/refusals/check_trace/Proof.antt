@@ -1,6 +1,5 @@
 -- `run::refusals::check_trace` meets its contract: at each `return` the tests that led there say which refusal it is. Assumes nothing.
 use borrow.Author.Needs.{needs}
-use mathlib.Core.Path.{sym, _∙_}
 use borrow.Author.Tests.{eq-eqb, ne-eqb, lt-ltb, le-ltb}
 use Rattle.run.specs.Refusals.{traceRefusal}
 use Rattle.run.proofs.refusals.check_trace.Statement.{statement}
@@ -17,16 +16,8 @@ returns-2 c = rw (eq-eqb _ _ (c .before .before .if1 .left), lt-ltb _ _ (c .befo
 returns-3 : tie.Need-returns-3
 unfolding traceRefusal
 returns-3 c =
-    let k = c .before .before .before in
-    let clean = sym (c .before .before .first-flawed-packet .ensures) ∙ c .enum-told .given .1 in
-    rw (eq-eqb _ _ (k .before .if1 .left), le-ltb _ _ (k .if2 .left), clean)
-
-returns-4 : tie.Need-returns-4
-unfolding traceRefusal
-returns-4 c =
-    let k = c .before .before .before .before in
-    let flawed = sym (c .before .before .before .first-flawed-packet .ensures) ∙ c .before .i .given .1 in
-    rw (eq-eqb _ _ (k .before .if1 .left), le-ltb _ _ (k .if2 .left), flawed)
+    let k = c .before .before in
+    rw (eq-eqb _ _ (k .before .if1 .left), le-ltb _ _ (k .if2 .left), ← c .before .first-flawed-packet .ensures) (c .flaw-verdict .ensures)
 
 pub check-trace-spec : {M : Type 1} → statement M
 check-trace-spec =
@@ -38,6 +29,4 @@ check-trace-spec =
     returns-2
     (λ c. search needs)
     (λ c. search needs)
-    (λ c. search needs)
-    returns-3
-    returns-4)
+    returns-3)

@@ -21,13 +21,13 @@ use Rattle.table.proofs.lookups.find.Tie as tie
 
 returns : tie.Need-returns
 unfolding findAnswer lookupRefusal keyRefusal
-returns c = rw (ne-eqb _ _ (c .if1 .taken))
+returns c = rw (c .at-no-place .ensures, ne-eqb _ _ (c .before .if1 .taken))
 
 returns-2 : tie.Need-returns-2
 unfolding findAnswer lookupRefusal keyRefusal slotsRefusal
 returns-2 c =
-    let k = c .before in
-    rw (eq-eqb _ _ (k .before .if1 .left), sym (k .slots-fit .ensures) ∙ not-true (c .if2 .taken))
+    let k = c .before .before in
+    rw (c .at-no-place2 .ensures, eq-eqb _ _ (k .before .if1 .left), sym (k .slots-fit .ensures) ∙ not-true (c .before .if2 .taken))
 
 -- the table is not refused
 fit : (c : tie.After-first-slot-for) → slotsFit (c .before .before .before .before .before .before .before .args .table .now) ≡ true
@@ -62,8 +62,9 @@ returns-3 c =
 returns-4 : tie.Need-returns-4
 unfolding findAnswer lookupRefusal keyRefusal slotsRefusal
 returns-4 c =
-    let k = c .before .before .before .before in
-    rw (eq-eqb _ _ (key-long k), fit k, there (c .before .before), lt-leb _ _ (c .if3 .taken))
+    let i = c .before in
+    let k = i .before .before .before .before in
+    rw (c .at-no-place3 .ensures, eq-eqb _ _ (key-long k), fit k, there (i .before .before), lt-leb _ _ (i .if3 .taken))
 
 returns-5 : tie.Need-returns-5
 unfolding findAnswer lookupRefusal keyRefusal slotsRefusal
@@ -75,9 +76,12 @@ pub find-spec : {M : Type 1} → statement M
 find-spec =
     tie.close
     (tie.spec
+    (λ c. search needs)
     returns
     (λ c. search needs)
+    (λ c. search needs)
     returns-2
+    (λ c. search needs)
     (λ c. search needs)
     (λ c. search needs)
     (λ c. search needs)

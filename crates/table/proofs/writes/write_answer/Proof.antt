@@ -9,7 +9,7 @@ use Rattle.ternary.specs.Sizes.{keySize}
 use Rattle.records.specs.SlotBuffers.{slotCount}
 use Rattle.checks.specs.BufferRefusals.{slotsFit, slotsRefusal}
 use Rattle.table.specs.Writes.{writeMessageRefusal, writeCallRefusal}
-use Rattle.table.proofs.WriteLaws.{taken-refused, taken-passed}
+use Rattle.checks.proofs.RefusalLaws.{verdict-refused, verdict-fine}
 use Rattle.table.proofs.writes.write_answer.Statement.{statement}
 use Rattle.table.proofs.writes.write_answer.Tie as tie
 
@@ -27,14 +27,14 @@ returns-2 c =
     let k = c .before .before .before in
     let a = k .before .before .before .before .before .args in
     let refused : writeMessageRefusal (a .message .now) (slotCount keySize (a .table .now)) ≡ some _ =
-    taken-refused _ _ (sym (c .before .refusal .given .1) ∙ k .message-answer .ensures)
+    verdict-refused _ (k .message-answer .ensures) (c .before .refusal .given .1)
     in
     rw (fit k, refused)
 
 -- nor is the message
 good : (c : tie.After-enum-told) → let a = c .before .before .before .before .before .before .before .args in
     writeMessageRefusal (a .message .now) (slotCount keySize (a .table .now)) ≡ none
-good c = taken-passed _ (sym (c .enum-told .given .1) ∙ c .before .before .message-answer .ensures)
+good c = verdict-fine _ (c .before .before .message-answer .ensures) (c .enum-told .given .1)
 
 returns-3 : tie.Need-returns-3
 unfolding writeCallRefusal slotsRefusal

@@ -1,14 +1,14 @@
 -- `wunnagresk::keeper_calls::wg_open` meets its contract: the inner call's answer as numbers, its buffers as they are. Assumes nothing.
 use borrow.Author.Needs.{needs}
 use mathlib.Core.Path.{ap, _∙_}
-use Rattle.c_answers.specs.Lists.{listNumbers}
+use Rattle.c_answers.specs.Answers.{countForC}
 use Rattle.wunnagresk.proofs.keeper_calls.wg_open.Statement.{statement}
 use Rattle.wunnagresk.proofs.keeper_calls.wg_open.Tie as tie
 
 returns : tie.Need-returns
 returns c =
     let k = c .before .before .before .open-list .ensures in
-    record { numbers = c .list-numbers .ensures ∙ ap listNumbers (k .answer); written = k .written }
+    record { answer = c .count-for-c .ensures ∙ ap countForC (k .answer); out-after = k .out-after }
 
 pub wg-open-spec : {M : Type 1} → statement M
 wg-open-spec =

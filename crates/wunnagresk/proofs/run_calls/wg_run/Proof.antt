@@ -47,16 +47,16 @@ use denote.Exit.{yes}
 use Rattle.totals.specs.declared.Totals.{Totals}
 use Rattle.totals.proofs.Totals as T
 use Rattle.totals.proofs.Totals.Laws as T′
-use Rattle.c_answers.specs.declared.run_for_c.RunTold.{RunTold}
+use Rattle.c_answers.specs.declared.ran.RunTold.{RunTold}
 use Rattle.c_answers.specs.RunCalls.{RunCall}
-use Rattle.c_answers.proofs.run_for_c.RunTold as N
-use Rattle.c_answers.proofs.run_for_c.RunTold.Laws as N′
+use Rattle.c_answers.proofs.ran.RunTold as N
+use Rattle.c_answers.proofs.ran.RunTold.Laws as N′
 use Rattle.c_answers.proofs.structs.WgCount as S
 use Rattle.c_answers.proofs.structs.WgCount.Laws as S′
-use Rattle.c_answers.proofs.run_for_c.run_with as with
-use Rattle.c_answers.proofs.run_for_c.run_with.Symbol as with-def
-use Rattle.c_answers.proofs.run_for_c.run_with.Symbol.{name as #run-with}
-use Rattle.c_answers.proofs.run_for_c.run_with.Met as with-thm
+use Rattle.c_answers.proofs.ran.run_with as with
+use Rattle.c_answers.proofs.ran.run_with.Symbol as with-def
+use Rattle.c_answers.proofs.ran.run_with.Symbol.{name as #run-with}
+use Rattle.c_answers.proofs.ran.run_with.Met as with-thm
 use Rattle.wunnagresk.proofs.run_calls.wg_run.Key.{name as #wg-run}
 use Rattle.wunnagresk.proofs.run_calls.wg_run as f
 use Rattle.wunnagresk.proofs.run_calls.wg_run.Statement as stated
@@ -430,5 +430,5 @@ wg-run-spec 𝓤 H 𝓜 𝓖 𝓡 =
     entered 𝓤 H (tripleOf 𝓤 H (𝓖 .A) f.signature (f.spec 𝓤 H (𝓖 .A) (𝓜 .mem) (𝓡 .run)))
     (tables 𝓤 H 𝓜 𝓡 code.env .C) (tables 𝓤 H 𝓜 𝓡 code.env .Λ) #wg-run code.function (code.unfolded 𝓤 H 𝓜 𝓡)
     (run-meets 𝓤 H (𝓖 .A) (givenOf 𝓤 H 𝓜 𝓖) (𝓜 .mem) (𝓡 .run) (tablesOf 𝓤 H 𝓜 (tables 𝓤 H 𝓜 𝓡 code.env))
-    (cited 𝓤 H (With 𝓤 H (𝓖 .A) (𝓜 .mem) (𝓡 .run)) 𝓜 𝓡 code.env #run-with with-def.routine code.calls-c-answers·run-for-c·run-with (with-thm.met
+    (cited 𝓤 H (With 𝓤 H (𝓖 .A) (𝓜 .mem) (𝓡 .run)) 𝓜 𝓡 code.env #run-with with-def.routine code.calls-c-answers·ran·run-with (with-thm.met
     𝓤 H 𝓜 𝓖 𝓡)))
