@@ -7,9 +7,9 @@ number, the output's length (the other rule's number where the question is wheth
 from policies import OVERLAPS, PARTED, POLICY, SMALL, V2, V3, V4, V4_ONE_FIELD, V5, V6, V7, V8, V9, fields, key, to_v6, top
 from questions import Questions
 from rules import KEY, RULE, Refused, Rule, call_best, call_check, call_cover, call_isolate, call_record
-from rules import overlap, policy_bytes, read_policy, rule_bytes
+from rules import matches, overlap, policy_bytes, read_policy, rule_bytes
 
-CHECK, BEST, RECORD, COVER, ISOLATE, OVERLAP = range(1, 7)
+CHECK, BEST, RECORD, COVER, ISOLATE, OVERLAP, MATCH = range(1, 8)
 
 # a rule whose last spare byte is not zero
 FLAWED = rule_bytes(SMALL[1], spare=1)
@@ -37,6 +37,10 @@ def line(question, data, key_, number, room):
     if question == OVERLAP:
         policy = read_policy(data)
         return 'overlap' if overlap(policy[number], policy[room]) else 'apart'
+    if question == MATCH:
+        rule = read_policy(data)[number]
+        exact = bin(rule.mask).count('1')
+        return f'{"matches" if matches(rule, int.from_bytes(key_, "big")) else "differs"} exact {exact} wildcards {8 * KEY - exact}'
     answer = call_isolate(data, key_, number)
     return said(answer) or (f'value {answer.value.to_bytes(KEY, "big").hex()} mask {answer.mask.to_bytes(KEY, "big").hex()}'
                             f' fixed {answer.fixed} wildcards {answer.wildcards}')
@@ -83,6 +87,15 @@ def vectors(cases):
     cases.ask_all('V8', V8, shown('000100', '011100', '010000', '001000', '100000', '010001', '010011', '110111', '100100', '111000',
                                   '011000', '000010'))
     cases.ask_all('V9', V9, shown('110000', '110011', '000000', '100000', '001100', '110110', '111010', '000100'))
+
+
+def patterns(cases):
+    """Each rule against each key, and its bits counted."""
+    for name, policy, keys in [('small', SMALL, shown('1111', '1010', '0000', '1000')), ('V9', V9, shown('110000', '000100')),
+                               ('V6', V6, [('R3', to_v6(69, 7, 6, 80)), ('R1', to_v6(64, 1, 6, 179))])]:
+        for i in range(len(policy)):
+            for text, k in keys:
+                cases.ask(f'{name}.match.{i}.{text}', MATCH, policy_bytes(policy), k, i)
 
 
 def edges(cases):
@@ -148,6 +161,7 @@ def make():
     """The files of the test program, by their paths in the repository."""
     cases = Cases()
     vectors(cases)
+    patterns(cases)
     edges(cases)
     refusals(cases)
     return cases.files('test_policy', 'policies.bin')

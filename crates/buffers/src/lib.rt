@@ -36,7 +36,7 @@ pub fn be32(s: &[u8], at: usize) -> u32
 }
 
 // The two bytes of a number, the higher first.
-pub fn bytes16(x: u16) -> [u8; 2]
+fn bytes16(x: u16) -> [u8; 2]
     ensures { λ r. ⌜ r ≡ toBe 2 x ⌝ }
 {
     [(x / 256 % 256) as u8, (x % 256) as u8]

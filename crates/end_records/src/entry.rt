@@ -10,7 +10,7 @@ ghost use Rattle.buffers.specs.Parts.{splice};
 ghost use Rattle.records.specs.Layout.{slotSize};
 
 // What follows the rows.
-pub fn tail_bytes(first: u16, second: u16, third: u8, last: u8) -> [u8; layout::TAIL_SIZE]
+pub(crate) fn tail_bytes(first: u16, second: u16, third: u8, last: u8) -> [u8; layout::TAIL_SIZE]
     ensures { λ r. ⌜ r ≡ toBe 2 first ++ (toBe 2 second ++ (third ∷ last ∷ [])) ⌝ }
 {
     [
@@ -33,7 +33,7 @@ fn with_part(mut b: [u8; layout::SLOT_SIZE], at: usize, part: &[u8]) -> [u8; lay
 }
 
 // The whole record.
-pub fn entry_bytes(
+pub(crate) fn entry_bytes(
     head: [u8; layout::SLOT_VALUE],
     value: [u8; layout::KEY_SIZE],
     mask: [u8; layout::KEY_SIZE],

@@ -4,7 +4,7 @@ ghost use mathlib.Core.Path.{_≡_};
 ghost use mathlib.Core.List.{[], _∷_, _++_};
 ghost use Rattle.buffers.specs.BigEndian.{toBe};
 
-pub fn head_bytes(kind: u8, slot: u16, sequence: u32) -> [u8; layout::WRITE_VALUE]
+pub(crate) fn head_bytes(kind: u8, slot: u16, sequence: u32) -> [u8; layout::WRITE_VALUE]
     ensures { λ r. ⌜ r ≡ (kind ∷ 0 ∷ []) ++ (toBe 2 slot ++ toBe 4 sequence) ⌝ }
 {
     [

@@ -53,7 +53,7 @@ fn with_counts(pattern: Pattern, fixed: usize) -> Isolated
 }
 
 // The rule isolated for the key, whose best it is. `deps` are the rule's dependents, which all stand at first.
-pub fn isolate_rule(policy: &[u8], key: [u8; KEY_SIZE], number: usize, deps: Numbers) -> Isolated
+fn isolate_rule(policy: &[u8], key: [u8; KEY_SIZE], number: usize, deps: Numbers) -> Isolated
     requires { ⌜ (number < ruleCount keySize (now policy)) × (best positions (rules keySize (now policy)) key ≡ some number) ×
         Lists (deps .items) (deps .count) (dependents positions (rules keySize (now policy)) number) ⌝ }
     ensures { λ r. ⌜ asIsolated r ≡ isolate positions (rules keySize (now (policy .entry))) key number ⌝ }

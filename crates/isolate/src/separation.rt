@@ -39,7 +39,7 @@ pub struct Column {
 }
 
 // The column of byte b of the key: what separates at its eight positions is then counted over bytes side by side.
-pub fn column_of(
+pub(crate) fn column_of(
     policy: &[u8],
     key: [u8; layout::KEY_SIZE],
     number: usize,
@@ -68,7 +68,7 @@ pub fn column_of(
 }
 
 // How many of the first `count` bytes have bit q, counted from the top.
-pub fn marked(bytes: &[u8], count: usize, q: usize) -> usize
+pub(crate) fn marked(bytes: &[u8], count: usize, q: usize) -> usize
     requires { ⌜ (count ≤ length (now bytes)) × (q < 8) ⌝ }
     ensures { λ r. ⌜ r ≡ length (keep (bitSet q) (take count (now (bytes .entry)))) ⌝ }
 {
@@ -84,7 +84,7 @@ pub fn marked(bytes: &[u8], count: usize, q: usize) -> usize
 }
 
 // Those of the standing that position p does not separate, in order.
-pub fn left(
+pub(crate) fn left(
     policy: &[u8],
     key: [u8; layout::KEY_SIZE],
     number: usize,

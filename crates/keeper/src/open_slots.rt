@@ -24,7 +24,7 @@ fn is_open(keeper: &[u8], i: usize) -> bool
 }
 
 // The numbers of the open slots, rising.
-pub fn open_slots(keeper: &[u8]) -> Numbers
+pub(crate) fn open_slots(keeper: &[u8]) -> Numbers
     requires { ⌜ slotCount keySize (now keeper) ≤ mostSlots ⌝ }
     ensures { λ r. ⌜ Lists (r .items) (r .count) (openList (slots keySize (now (keeper .entry)))) ⌝ }
 {

@@ -50,7 +50,7 @@ fn check_slot(keeper: &[u8], x: Report) -> Verdict
 }
 
 // Whether a report is taken: refusal 4 of the keeper, then those of the message.
-pub fn may_report(keeper: &[u8], message: &[u8]) -> Verdict
+pub(crate) fn may_report(keeper: &[u8], message: &[u8]) -> Verdict
     ensures { λ r. ⌜ r ≡ reportAnswer (now (keeper .entry)) (now (message .entry)) ⌝ }
 {
     if !checks::buffer::slots_fit(keeper) {

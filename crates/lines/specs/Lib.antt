@@ -2,5 +2,3 @@
 pub mod Printed
 -- Lines in a lent output.
 pub mod Listing
--- What slots.txt says.
-pub mod Slots

@@ -1,21 +1,9 @@
 -- The lines that the program prints. Assumes nothing.
-use mathlib.Core.List.{List, [], _∷_, _++_}
+use mathlib.Core.List.{List, [], _∷_}
 use Prim.Native.Nat.{ℕ}
 use Rattle.ends.specs.Records.{Outcome, Totals}
 use Rattle.text.specs.Decimal.{decimal}
-use Rattle.text.specs.Words.{orDash}
-
-abbrev pub space : ℕ
-space = 32
-
-abbrev pub newline : ℕ
-newline = 10
-
--- words with one space between, and a newline after
-abbrev pub lineOf : List (List ℕ) → List ℕ
-lineOf [] = newline ∷ []
-lineOf (word ∷ []) = word ++ (newline ∷ [])
-lineOf (word ∷ next ∷ words) = word ++ (space ∷ lineOf (next ∷ words))
+use Rattle.text.specs.Words.{orDash, lineOf}
 
 -- outcome, action, rule, slot, evicted rule
 unfoldable pub outcomeLine : Outcome → List ℕ

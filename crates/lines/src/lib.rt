@@ -1,6 +1,5 @@
 // The lines that the program prints, as text by value. Each is built from its end.
 pub mod put;
-pub mod slots_text;
 
 use checks::refusal::Refusal;
 use text::Line;
@@ -38,7 +37,7 @@ fn wide32(x: u32) -> u64
 }
 
 // An outcome's line: outcome, action, rule, slot, evicted rule.
-pub fn outcome_line(c: &[u8]) -> Line
+pub(crate) fn outcome_line(c: &[u8]) -> Line
     requires { ⌜ length (now c) ≡ outcomeSize ⌝ }
     ensures { λ r. ⌜ Says (outcomeLine (decodeOutcome (now (c .entry)))) r ⌝ }
 {

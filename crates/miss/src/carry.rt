@@ -31,7 +31,7 @@ pub fn put_new_entry(keeper: &mut [u8], outcome: u8, x: Write)
 }
 
 // Carries a decision out: refusal 5 where a write is given; a new entry goes into its slot, and the write into `out`.
-pub fn carry_out(d: Decision, keeper: &mut [u8], out: &mut [u8]) -> MissAnswer
+pub(crate) fn carry_out(d: Decision, keeper: &mut [u8], out: &mut [u8]) -> MissAnswer
     requires { ⌜ d .write .slot < slotCount keySize (now keeper) ⌝ }
     ensures { λ r. ⌜ CarriedOut d (now (keeper .entry)) (now (out .entry)) r (now (keeper .exit)) (now (out .exit)) ⌝ }
 {

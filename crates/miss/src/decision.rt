@@ -22,7 +22,7 @@ pub struct Decision {
 }
 
 // The decision that gives no write.
-pub fn no_write(outcome: u8, action: u16, rule: u16) -> Decision
+pub(crate) fn no_write(outcome: u8, action: u16, rule: u16) -> Decision
     ensures { λ r. ⌜ NoWrite outcome action rule r ⌝ }
 {
     Decision {
@@ -45,7 +45,7 @@ pub fn no_write(outcome: u8, action: u16, rule: u16) -> Decision
 }
 
 // The decision that slot i's write is given again, with its old sequence.
-pub fn write_again(keeper: &[u8], i: usize) -> Decision
+pub(crate) fn write_again(keeper: &[u8], i: usize) -> Decision
     requires { ⌜ (i < slotCount keySize (now keeper)) × (slotCount keySize (now keeper) ≤ mostSlots) ⌝ }
     ensures { λ r. ⌜ ((policy : List ℕ) → DecidedAs policy (now (keeper .entry)) (again i) r) ⌝ }
 {
@@ -72,7 +72,7 @@ pub fn write_again(keeper: &[u8], i: usize) -> Decision
 }
 
 // The outcome of a rule that is written to slot i: over its entry, whose rule is evicted, unless it is empty.
-pub fn entry_outcome(keeper: &[u8], i: usize, action: u16, rule: u16) -> Outcome
+pub(crate) fn entry_outcome(keeper: &[u8], i: usize, action: u16, rule: u16) -> Outcome
     requires { ⌜ (i < slotCount keySize (now keeper)) × (slotCount keySize (now keeper) ≤ mostSlots) ⌝ }
     ensures { λ r. ⌜ asOutcome r ≡ entryOutcome (slots keySize (now (keeper .entry))) i action rule ⌝ }
 {

@@ -9,7 +9,7 @@ ghost use Rattle.miss.specs.Decide.{FineMiss};
 ghost use Rattle.miss.specs.Answers.{OnMiss, Missed};
 
 // A miss whose parts are not refused: decided, and carried out. Refusal 5 changes nothing.
-pub fn on_miss(policy: &[u8], key: &[u8], keeper: &mut [u8], out: &mut [u8]) -> MissAnswer
+fn on_miss(policy: &[u8], key: &[u8], keeper: &mut [u8], out: &mut [u8]) -> MissAnswer
     requires { ⌜ FineMiss (now policy) (now key) (now keeper) ⌝ }
     ensures { λ r. ⌜ OnMiss (now (policy .entry)) (now (key .entry)) (now (keeper .entry)) (now (out .entry)) r
         (now (keeper .exit)) (now (out .exit)) ⌝ }

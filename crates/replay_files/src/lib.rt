@@ -6,7 +6,7 @@ ghost use Rattle.replay_text.specs.Text.{mostText};
 ghost use Rattle.io.specs.Counts.{Counts};
 
 // One byte more than each file may have: a longer file is seen to be longer, and an endless one is read no further.
-const SLOTS_ROOM: usize = lines::slots_text::MOST + 1;
+const SLOTS_ROOM: usize = text::slots_text::MOST + 1;
 
 const POLICY_ROOM: usize = replay_text::files::MOST_POLICY_BYTES + 1;
 

@@ -12,10 +12,10 @@ use Rattle.records.specs.Layout.{mostSlots}
 use Rattle.checks.specs.Refusals.{need}
 use Rattle.checks.specs.declared.refusal.Refusal.{Refusal}
 use Rattle.checks.proofs.RefusalLaws.{need-none, count-refused, count-given}
-use Rattle.lines.specs.Slots.{slotsIn}
+use Rattle.text.specs.SlotsText.{slotsIn}
 use Rattle.replay_text.specs.Files.{mostPolicyBytes, mostTraceBytes, fileRefusal, fileAnswer}
 use Rattle.checks.specs.declared.refusal.CountAnswer.the-variants.{Refused, Count}
-use Rattle.lines.proofs.SlotText.{slots-few}
+use Rattle.text.proofs.SlotsTextLaws.{slots-few}
 
 -- three files that are taken
 pub record Taken (slots policy trace : List ℕ) (n : ℕ) : Type 0 where

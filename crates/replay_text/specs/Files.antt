@@ -9,7 +9,7 @@ use Rattle.ternary.specs.Sizes.{keySize}
 use Rattle.records.specs.Layout.{ruleSize, traceSize, mostRules, mostPackets}
 use Rattle.checks.specs.declared.refusal.Refusal.{Refusal}
 use Rattle.checks.specs.Refusals.{need, countAnswerOf}
-use Rattle.lines.specs.Slots.{slotsIn}
+use Rattle.text.specs.SlotsText.{slotsIn}
 use Rattle.checks.specs.declared.refusal.CountAnswer.{CountAnswer}
 
 -- 32,768 and 65,536 bytes

@@ -22,7 +22,7 @@ use Rattle.run.specs.declared.Ran.{Ran}
 use Rattle.text.specs.Line.{lineSize}
 use Rattle.lines.specs.Printed.{outcomeLine, totalsLine, refusalLine}
 use Rattle.lines.specs.Listing.{linesIn}
-use Rattle.lines.specs.Slots.{slotsIn}
+use Rattle.text.specs.SlotsText.{slotsIn}
 use Rattle.replay_text.specs.Files.{fileRefusal}
 
 -- an end of n cleared slots

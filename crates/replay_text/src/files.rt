@@ -11,10 +11,10 @@ pub const MOST_POLICY_BYTES: usize = layout::RULE_SIZE * layout::MOST_RULES;
 pub const MOST_TRACE_BYTES: usize = layout::TRACE_SIZE * layout::MOST_PACKETS;
 
 // What the files' sizes and slots.txt come to, before any other test: refusal 4, then 2 for the policy, then 2 for the trace.
-pub fn file_answer(slots: &[u8], policy: &[u8], trace: &[u8]) -> CountAnswer
+pub(crate) fn file_answer(slots: &[u8], policy: &[u8], trace: &[u8]) -> CountAnswer
     ensures { λ r. ⌜ r ≡ fileAnswer (now (slots .entry)) (now (policy .entry)) (now (trace .entry)) ⌝ }
 {
-    let n = lines::slots_text::slot_count(slots);
+    let n = text::slots_text::slot_count(slots);
     if n == 0 {
         return CountAnswer::Refused(refusal::at_no_place(refusal::BAD_SLOTS));
     }

@@ -22,7 +22,7 @@ fn missed(policy: &[u8], key: &[u8], table: &mut [u8], keeper: &mut [u8]) -> Out
 }
 
 // One packet: the table looks the key up; a hit's report goes to the keeper, and so does a miss. What an end refuses changes nothing there.
-pub fn one_packet(policy: &[u8], key: &[u8], table: &mut [u8], keeper: &mut [u8]) -> Outcome
+pub(crate) fn one_packet(policy: &[u8], key: &[u8], table: &mut [u8], keeper: &mut [u8]) -> Outcome
     requires { ⌜ FinePacket (now policy) (now key) (now table) (now keeper) ⌝ }
     ensures { λ r. ⌜ PacketDone (packetOutcome (now (policy .entry)) (now (key .entry)) (now (table .entry)) (now (keeper .entry)))
         (packetEnds (now (policy .entry)) (now (key .entry)) (now (table .entry)) (now (keeper .entry)))

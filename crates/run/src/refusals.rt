@@ -40,7 +40,7 @@ fn check_ends(table: &[u8], keeper: &[u8]) -> Verdict
 }
 
 // Whether a run is refused, with an output of `out_len` bytes: 1, 2 and 3 of the policy, those of the trace and of the two ends, 13, 5.
-pub fn check_run(
+pub(crate) fn check_run(
     policy: &[u8],
     trace: &[u8],
     table: &[u8],

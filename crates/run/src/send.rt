@@ -7,7 +7,7 @@ ghost use Rattle.end_records.specs.MessageStructs.{asWrite};
 ghost use Rattle.run.specs.Send.{endsIn, WholeEnds, sentEnds};
 
 // A write goes to the table, and its report to the keeper. What an end refuses changes nothing there.
-pub fn send_write(w: Write, table: &mut [u8], keeper: &mut [u8])
+pub(crate) fn send_write(w: Write, table: &mut [u8], keeper: &mut [u8])
     requires { ⌜ WholeEnds (now table) (now keeper) ⌝ }
     ensures { λ _. ⌜ endsIn (now (table .exit)) (now (keeper .exit)) ≡ sentEnds (now (table .entry)) (now (keeper .entry)) (asWrite w) ⌝ }
 {

@@ -31,7 +31,7 @@ fn step(
 }
 
 // All packets of a run, in order; the totals after them.
-pub fn all_packets(
+pub(crate) fn all_packets(
     policy: &[u8],
     trace: &[u8],
     table: &mut [u8],

@@ -11,7 +11,7 @@ ghost use Rattle.records.specs.SlotBuffers.{slotCount};
 ghost use Rattle.slots.specs.Find.{slotFoundOf};
 
 // Whether the i-th slot of an end is not empty and takes the key.
-pub fn slot_holds(s: &[u8], i: usize, key: &[u8]) -> bool
+fn slot_holds(s: &[u8], i: usize, key: &[u8]) -> bool
     requires { ⌜ (i < slotCount keySize (now s)) × (length (now key) ≡ keySize) ⌝ }
     ensures { λ r. ⌜ r ≡ holds positions (slots keySize (now (s .entry))) (now (key .entry)) i ⌝ }
 {

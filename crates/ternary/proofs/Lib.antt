@@ -6,6 +6,5 @@ pub mod RowLengths
 pub mod CountLaws
 pub mod StrayBytes
 pub mod StrayLaws
-pub mod BitRowLengths
 -- Laws of a store that changes one bit of a row.
 pub mod StoreLaws

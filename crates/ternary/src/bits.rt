@@ -1,24 +1,15 @@
-// The bits of a pattern: read and counted; value bits under wildcards.
+// The bits of a pattern: counted, and one fixed; value bits under wildcards.
 use crate::KEY_SIZE;
 use crate::POSITIONS;
 use crate::Pattern;
 ghost use mathlib.Core.Path.{_≡_};
 ghost use Prim.Native.Nat.{_<_};
 ghost use lib.ListN.{length};
-ghost use Rattle.model.specs.Bits.{bitAt};
-ghost use Rattle.model.specs.Pattern.{canonical as canonicalAt, firstStray, wildcards as wildcardsAt};
+ghost use Rattle.model.specs.Pattern.{firstStray, wildcards as wildcardsAt};
 ghost use Rattle.ternary.specs.Sizes.{positions};
 ghost use Rattle.ternary.specs.Strays.{strayOf};
 ghost use Rattle.ternary.specs.Counts.{exactBits};
 ghost use Rattle.ternary.specs.Fixed.{Fixed};
-
-// The bit of the row at position p.
-pub fn bit(row: [u8; KEY_SIZE], p: usize) -> u8
-    requires { ⌜ p < positions ⌝ }
-    ensures { λ r. ⌜ r ≡ bitAt row p ⌝ }
-{
-    row[p / 8] >> (7 - p % 8) & 1
-}
 
 // Where the value has a bit under a wildcard.
 pub enum Stray {
@@ -39,18 +30,6 @@ pub fn first_stray(value: &[u8], mask: &[u8]) -> Stray
         i += 1;
     }
     Stray::Clean
-}
-
-// Whether the value is 0 at each wildcard.
-pub fn canonical(pattern: Pattern) -> bool
-    ensures { λ r. ⌜ r ≡ canonicalAt positions (pattern .value) (pattern .mask) ⌝ }
-{
-    let value = pattern.value;
-    let mask = pattern.mask;
-    match first_stray(&value, &mask) {
-        Stray::Clean => true,
-        Stray::At(_) => false,
-    }
 }
 
 // The exact bits: the ones of the mask, summed over its bytes.

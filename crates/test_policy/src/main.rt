@@ -124,6 +124,30 @@ fn ask_overlap(policy: &[u8], a: usize, b: usize) {
     }
 }
 
+// Whether a rule of a policy takes the key, and how many of its bits are exact and how many are wildcards.
+fn ask_match(policy: &[u8], key: &[u8], number: usize) {
+    if number >= policy.len() / records::layout::RULE_SIZE {
+        return;
+    }
+    if key.len() != ternary::KEY_SIZE {
+        return;
+    }
+    let its = pattern(policy, number);
+    let mask = its.mask;
+    if ternary::patterns::matches(its, records::row::row_at(key, 0)) {
+        say(b" matches");
+    } else {
+        say(b" differs");
+    }
+    say_numbers(
+        b" exact # wildcards #",
+        &[
+            ternary::bits::exact_bits(mask) as u64,
+            ternary::bits::wildcard_bits(mask) as u64,
+        ],
+    );
+}
+
 // The pattern of the i-th rule.
 fn pattern(policy: &[u8], i: usize) -> ternary::Pattern
     requires { ⌜ i < ruleCount keySize (now policy) ⌝ }
@@ -146,6 +170,7 @@ fn call(what: usize, policy: &[u8], key: &[u8], number: usize, room: usize) {
         4 => ask_cover(policy, number, room),
         5 => say_isolated(isolate::isolate(policy, key, number)),
         6 => ask_overlap(policy, number, room),
+        7 => ask_match(policy, key, number),
         _ => say(b" unknown question"),
     }
 }

@@ -2,3 +2,5 @@
 pub mod Decimal
 pub mod Words
 pub mod Line
+-- What slots.txt says.
+pub mod SlotsText

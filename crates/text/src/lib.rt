@@ -1,4 +1,6 @@
-// A line of text, built from its end.
+// Numbers as text; a line of text, built from its end.
+pub mod slots_text;
+
 use records::kinds;
 ghost use mathlib.Core.Path.{_≡_};
 ghost use mathlib.Core.List.{[], _∷_, _++_};

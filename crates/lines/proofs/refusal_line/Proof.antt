@@ -1,7 +1,8 @@
 -- `lines::refusal_line` meets its contract: place, number, then the word. Assumes nothing.
 use borrow.Author.Needs.{needs}
 use mathlib.Core.List.{[], _∷_, _++_}
-use Rattle.lines.specs.Printed.{refusalLine, refusedWord, space}
+use Rattle.lines.specs.Printed.{refusalLine, refusedWord}
+use Rattle.text.specs.Words.{space}
 use Rattle.text.proofs.LineLaws.{put-word, put-text}
 use Rattle.lines.proofs.refusal_line.Statement.{statement}
 use Rattle.lines.proofs.refusal_line.Tie as tie

@@ -3,9 +3,9 @@ use borrow.Author.Needs.{needs}
 use Prim.Native.Nat.{_-_}
 use native.Mathlib.Omega.{arith}
 use lib.ListN.{length}
-use Rattle.lines.proofs.Reading.{Reading, reading-none, reading-small, reading-more, reading-below, reading-above, reading-all}
-use Rattle.lines.proofs.slots_text.number.Statement.{statement}
-use Rattle.lines.proofs.slots_text.number.Tie as tie
+use Rattle.text.proofs.DigitLaws.{Reading, reading-none, reading-small, reading-more, reading-below, reading-above, reading-all}
+use Rattle.text.proofs.slots_text.number.Statement.{statement}
+use Rattle.text.proofs.slots_text.number.Tie as tie
 
 abbrev Inv-loop : tie.InvT-loop
 Inv-loop digits n₀ i₀ n i = Reading digits i n

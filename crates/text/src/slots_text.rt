@@ -3,8 +3,8 @@ use records::layout;
 ghost use mathlib.Core.Path.{_≡_};
 ghost use Prim.Native.Nat.{_≤_};
 ghost use lib.ListN.{length};
 ghost use Rattle.text.specs.Decimal.{numberIn};
-ghost use Rattle.lines.specs.Slots.{slotsIn};
+ghost use Rattle.text.specs.SlotsText.{slotsIn};
 
 // A slots.txt of a number from 1 to 256 and a newline has two to four bytes.
 const FEWEST: usize = 2;

@@ -6,8 +6,8 @@ use Prim.Native.Nat.{ℕ, suc}
 use lib.Dec.{leb, eqb}
 use Rattle.model.specs.Below.{firstBelow}
 use Rattle.records.specs.Layout.{mostSlots}
 use Rattle.text.specs.Decimal.{decimal}
-use Rattle.lines.specs.Printed.{lineOf}
+use Rattle.text.specs.Words.{lineOf}
 
 -- the same bytes
 unfoldable pub same : List ℕ → List ℕ → Bool

@@ -14,10 +14,10 @@ use Rattle.model.proofs.Cases.{by-cases, clash, cond-elim, and-left, and-right,
 use Rattle.model.proofs.BelowLaws.{all-at}
 use Rattle.model.proofs.OrderLaws.{first-at, foremost-none}
 use Rattle.records.specs.Layout.{mostSlots}
 use Rattle.text.specs.Decimal.{digit, decimalIn, decimal, numberFrom, numberIn}
-use Rattle.lines.specs.Printed.{newline, lineOf}
+use Rattle.text.specs.Words.{newline, lineOf}
 use Rattle.text.proofs.DecimalLaws.{decimal-one, decimal-number, number-digit, was-digit}
-use Rattle.lines.specs.Slots.{same, saysSlots, slotsIn}
+use Rattle.text.specs.SlotsText.{same, saysSlots, slotsIn}
 
 -- ---- the same bytes
 

@@ -4,9 +4,9 @@ use mathlib.Core.Path.{sym}
 use native.Mathlib.Omega.{arith}
 use lib.ListN.{length-take}
 use lib.Seq.{length-take-le}
-use Rattle.lines.proofs.SlotText.{too-short, too-long, no-newline, leading-zero, too-large, a-number}
-use Rattle.lines.proofs.slots_text.slot_count.Statement.{statement}
-use Rattle.lines.proofs.slots_text.slot_count.Tie as tie
+use Rattle.text.proofs.SlotsTextLaws.{too-short, too-long, no-newline, leading-zero, too-large, a-number}
+use Rattle.text.proofs.slots_text.slot_count.Statement.{statement}
+use Rattle.text.proofs.slots_text.slot_count.Tie as tie
 
 returns : tie.Need-returns
 returns c = too-short _ (search needs)
