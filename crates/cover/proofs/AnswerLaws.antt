@@ -21,7 +21,6 @@ use Rattle.checks.specs.declared.refusal.CountAnswer.{CountAnswer}
 use Rattle.checks.specs.declared.refusal.CountAnswer.the-variants.{Refused as Bad, Count, Refused}
 use Rattle.lists.specs.Numbers.{Lists}
 use Rattle.lists.specs.Answers.{listRefusal, Answered}
-use Rattle.checks.specs.declared.refusal.CountAnswer.{CountAnswer}
 use Rattle.lists.proofs.GatherLaws.{lists-few}
 use Rattle.lists.proofs.AnswerLaws.{answered-as}
 use Rattle.cover.specs.Depends.{dependsOn}

@@ -1,4 +1,4 @@
-// The keeper receives a report.
+// The keeper receives a report, and lists its open slots.
 pub mod open_slots;
 pub mod reports;
 

@@ -7,7 +7,6 @@ use checks::refusal::refused;
 use end_records::report::Report;
 use records::layout;
 ghost use mathlib.Core.Path.{_≡_};
-ghost use mathlib.Core.Option.{some};
 ghost use Rattle.ends.specs.Ends.{reportRefusal};
 ghost use Rattle.ternary.specs.Sizes.{keySize};
 ghost use Rattle.checks.specs.Refusals.{verdictOf};

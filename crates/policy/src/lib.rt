@@ -1,4 +1,4 @@
-// The policy that a caller lends: its check, and the fields of its rules.
+// The policy that a caller lends: its check, and the best rule of a key.
 pub mod lent;
 pub mod record;
 pub mod search;

@@ -19,7 +19,6 @@ use Rattle.records.specs.Traces.{packetCount, keys}
 use Rattle.checks.specs.Refusals.{unlessRefused}
 use Rattle.checks.specs.declared.refusal.Refusal.{Refusal}
 use Rattle.checks.proofs.RefusalLaws.{none-first}
-use Rattle.checks.specs.Keys.{keyRefusal}
 use Rattle.end_records.specs.Slots.{encodeSlot, slots, putSlot}
 use Rattle.records.specs.SlotBuffers.{slotCount}
 use Rattle.end_records.proofs.SlotLaws.{slots-put}
@@ -28,7 +27,6 @@ use Rattle.end_records.proofs.SlotBytes.{spelled-slots}
 use Rattle.end_records.specs.Reports.{decodeReport}
 use Rattle.records.specs.Outcomes.{encodeOutcome}
 use Rattle.policy.specs.Refusals.{policyRefusal}
-use Rattle.policy.specs.Answers.{bestRefusal}
 use Rattle.policy.proofs.Acceptance.{accepted-bytes}
 use Rattle.table.proofs.AfterLaws.{after-lookup, after-write}
 use Rattle.slots.specs.Settle.{reportBytes}

@@ -13,7 +13,6 @@ use Rattle.table.specs.Writes.{Received}
 use Rattle.checks.specs.declared.refusal.Verdict.{Verdict}
 use Rattle.keeper.specs.Reports.{Reported}
 use Rattle.keeper.specs.Opens.{Opened}
-use Rattle.checks.specs.declared.refusal.Verdict.{Verdict}
 use Rattle.checks.specs.declared.refusal.CountAnswer.{CountAnswer}
 use Rattle.miss.specs.declared.carry.MissAnswer.{MissAnswer}
 use Rattle.miss.specs.Answers.{Missed}

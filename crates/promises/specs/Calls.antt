@@ -19,7 +19,6 @@ use Rattle.checks.specs.declared.refusal.Verdict.{Verdict}
 use Rattle.checks.specs.declared.refusal.Verdict.the-variants.{Refused as WriteRefused, Fine}
 use Rattle.keeper.specs.Reports.{reportRefused, Reported}
 use Rattle.keeper.specs.Opens.{Opened}
-use Rattle.checks.specs.declared.refusal.Verdict.{Verdict}
 use Rattle.checks.specs.declared.refusal.CountAnswer.{CountAnswer}
 use Rattle.records.specs.Outcomes.{givesWrite}
 use Rattle.miss.specs.declared.carry.MissAnswer.{MissAnswer}

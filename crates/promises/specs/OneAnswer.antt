@@ -13,14 +13,11 @@ use Rattle.isolate.specs.declared.IsolateAnswer.{IsolateAnswer}
 use Rattle.show.specs.Answers.{showAnswer, shownPart}
 use Rattle.show.specs.declared.ShowAnswer.{ShowAnswer}
 use Rattle.cover.specs.Answers.{Covered}
-use Rattle.checks.specs.declared.refusal.CountAnswer.{CountAnswer}
 use Rattle.table.specs.Lookups.{LookedUp}
 use Rattle.table.specs.declared.LookupAnswer.{LookupAnswer}
 use Rattle.table.specs.Writes.{Received}
-use Rattle.checks.specs.declared.refusal.Verdict.{Verdict}
 use Rattle.keeper.specs.Reports.{Reported}
 use Rattle.keeper.specs.Opens.{Opened}
-use Rattle.checks.specs.declared.refusal.Verdict.{Verdict}
 use Rattle.miss.specs.declared.carry.MissAnswer.{MissAnswer}
 use Rattle.miss.specs.Answers.{Missed}
 use Rattle.ends.specs.Records.{Totals}

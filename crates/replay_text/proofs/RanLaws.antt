@@ -11,7 +11,6 @@ use Rattle.lines.specs.Printed.{totalsLine, refusalLine}
 use Rattle.lines.specs.Listing.{linesIn, TextPut}
 use Rattle.lines.proofs.PutLaws.{same-put}
 use Rattle.replay_text.specs.Files.{fileRefusal, fileAnswer}
-use Rattle.checks.specs.declared.refusal.CountAnswer.{CountAnswer}
 use Rattle.replay_text.proofs.FileLaws.{Taken, files-refused, files-taken}
 use Rattle.replay_text.specs.Text.{ranText, outcomesFrom, callRefusal, textFor, replayText}
 

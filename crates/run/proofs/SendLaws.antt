@@ -31,7 +31,6 @@ use Rattle.checks.proofs.RefusalLaws.{verdict-refused, verdict-fine}
 use Rattle.table.proofs.WriteLaws.{good-call}
 use Rattle.table.proofs.ModelLaws.{taken-here, taken-there, received}
 use Rattle.keeper.specs.Reports.{numbered, reportRefused, Reported}
-use Rattle.checks.specs.declared.refusal.Verdict.{Verdict}
 use Rattle.keeper.proofs.ReportLaws.{report-meaning}
 use Rattle.run.specs.Send.{endsIn, WholeEnds, sentEnds}
 

@@ -28,7 +28,7 @@ outcomesOf policy trace table keeper = toldBy policy table keeper (keys keySize 
 abbrev pub endsOf : List ℕ → List ℕ → List ℕ → List ℕ → Ends
 endsOf policy trace table keeper = endsAfter policy table keeper (keys keySize trace)
 
--- all that a call resultOf: the answer, the totals, and the bytes of the three buffers
+-- all that a call shows: the answer, the totals, and the bytes of the three buffers
 pub record RunResult : Type 0 where
   pub answer : CountAnswer
   pub totals : Totals

@@ -1,7 +1,7 @@
 -- Calls of the run, one after another, by what each was lent and what it left. Assumes nothing.
 use mathlib.Core.Path.{_≡_}
-use mathlib.Core.List.{List, [], _∷_, _++_, map, flatten}
-use Prim.Native.Nat.{ℕ, _+_, _*_}
+use mathlib.Core.List.{List, [], _∷_, map, flatten}
+use Prim.Native.Nat.{ℕ, _*_}
 use lib.ListN.{take}
 use Rattle.ends.specs.Records.{Outcome, Totals}
 use Rattle.ends.specs.Totals.{clearedTotals, CountsOf, Balanced}

@@ -50,11 +50,11 @@ pub fn write(table: &mut [u8], message: &[u8], out: &mut [u8]) -> Verdict
         return Verdict::Refused(refusal);
     }
     let w = end_records::write::write_of(message);
-    let x = slots::entry::store_newer(table, w);
+    let stored = slots::entry::store_newer(table, w);
     let report = end_records::report::Report {
         slot: w.slot,
-        sequence: x.sequence,
-        hits: x.hits,
+        sequence: stored.sequence,
+        hits: stored.hits,
     };
     end_records::report::put_report(out, report);
     Verdict::Fine

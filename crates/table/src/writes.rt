@@ -4,7 +4,6 @@ use checks::refusal::Verdict;
 use checks::refusal::refused;
 use records::layout;
 ghost use mathlib.Core.Path.{_≡_};
-ghost use mathlib.Core.Option.{some};
 ghost use Rattle.checks.specs.Refusals.{verdictOf};
 ghost use Rattle.table.specs.Writes.{writeMessageRefusal, writeCallRefusal};
 
