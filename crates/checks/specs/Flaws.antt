@@ -3,7 +3,7 @@ use mathlib.Core.Path.{_≡_}
 use mathlib.Core.Bool.{Bool, true, false, cond}
 use mathlib.Core.List.{List, [], _∷_}
 use mathlib.Core.Option.{Option, none, some, Option·map}
-use Prim.Native.Nat.{ℕ, _+_}
+use Prim.Native.Nat.{ℕ, zero, suc, _+_}
 use lib.Dec.{eqb}
 use lib.ListN.{getD}
 use Rattle.model.specs.Pattern.{firstStray}
@@ -16,6 +16,11 @@ use Rattle.checks.specs.declared.flaw.Flaw.the-variants.{Clean, Spare, S
 abbrev pub firstNonzero : List ℕ → List ℕ → Option ℕ
 firstNonzero [] c = none
 firstNonzero (at ∷ ats) c = let later = firstNonzero ats c in cond (eqb (getD c at 0) 0) later (some at)
+
+-- the n bytes from `at` on
+abbrev pub offsets : ℕ → ℕ → List ℕ
+offsets at zero = []
+offsets at (suc n) = at ∷ offsets (at + 1) n
 
 -- each of these bytes is zero
 abbrev pub Zeros : List ℕ → List ℕ → Type 0
@@ -31,6 +36,12 @@ abbrev pub flawOf : Option ℕ → Option ℕ → Flaw
 flawOf (some at) stray = Spare at
 flawOf none (some at) = Stray at
 flawOf none none = Clean
+
+-- of two flaws the first
+abbrev pub firstTold : Flaw → Flaw → Flaw
+firstTold Clean later = later
+firstTold (Spare at) later = Spare at
+firstTold (Stray at) later = Stray at
 
 -- ---- the bytes that must be zero, rising
 
