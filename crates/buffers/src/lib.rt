@@ -1,4 +1,6 @@
 // Bytes of a lent buffer: big-endian numbers read and written in place, and one row of bytes copied into another.
+#![tactic(auto)]
+
 ghost use Rattle.std.specs.Prelude.{◌≡◌, ◌+◌, ◌≤◌, ◌<◌, max, length};
 ghost use Rattle.buffers.specs.BigEndian.{be, to_be};
 ghost use Rattle.buffers.specs.Parts.{part, splice};

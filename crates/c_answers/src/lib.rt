@@ -1,4 +1,6 @@
 // The structs that C reads, and the answer of each call in them.
+#![tactic(auto)]
+
 pub mod best;
 pub mod count;
 pub mod done;

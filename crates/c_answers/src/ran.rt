@@ -5,7 +5,7 @@ use crate::structs::WgCount;
 use totals::Totals;
 
 // What a run tells C, and the totals after it.
-#[derive(Drop)]
+#[derive(Clone, Copy)]
 pub struct RunTold {
     pub numbers: WgCount,
     pub totals: Totals,

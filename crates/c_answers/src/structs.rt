@@ -2,7 +2,7 @@
 
 // A write, a report.
 #[repr(C)]
-#[derive(Drop)]
+#[derive(Clone, Copy)]
 pub struct WgDone {
     pub refusal: u32,
     pub place: usize,
@@ -10,7 +10,7 @@ pub struct WgDone {
 
 // How many rules, or how many numbers were written.
 #[repr(C)]
-#[derive(Drop)]
+#[derive(Clone, Copy)]
 pub struct WgCount {
     pub refusal: u32,
     pub place: usize,
@@ -19,7 +19,7 @@ pub struct WgCount {
 
 // The best rule of a key: `found` is 1, or 0 where there is none.
 #[repr(C)]
-#[derive(Drop)]
+#[derive(Clone, Copy)]
 pub struct WgBestAnswer {
     pub refusal: u32,
     pub place: usize,
@@ -30,7 +30,7 @@ pub struct WgBestAnswer {
 
 // Where a rule's record lies in the policy.
 #[repr(C)]
-#[derive(Drop)]
+#[derive(Clone, Copy)]
 pub struct WgPart {
     pub refusal: u32,
     pub place: usize,
@@ -40,7 +40,7 @@ pub struct WgPart {
 
 // The fixed bits of an isolated rule, and the wildcard bits left.
 #[repr(C)]
-#[derive(Drop)]
+#[derive(Clone, Copy)]
 pub struct WgIsolated {
     pub refusal: u32,
     pub place: usize,
@@ -50,7 +50,7 @@ pub struct WgIsolated {
 
 // A lookup: `hit` is 1, or 0 on a miss.
 #[repr(C)]
-#[derive(Drop)]
+#[derive(Clone, Copy)]
 pub struct WgFound {
     pub refusal: u32,
     pub place: usize,
@@ -62,7 +62,7 @@ pub struct WgFound {
 
 // The outcome of a miss.
 #[repr(C)]
-#[derive(Drop)]
+#[derive(Clone, Copy)]
 pub struct WgOutcome {
     pub refusal: u32,
     pub place: usize,
@@ -82,7 +82,7 @@ pub const FROM_POLICY: u32 = 2;
 
 // Which record decides, and where it lies in the buffer that holds it.
 #[repr(C)]
-#[derive(Drop)]
+#[derive(Clone, Copy)]
 pub struct WgShown {
     pub refusal: u32,
     pub place: usize,

@@ -8,7 +8,7 @@ ghost use Rattle.checks.specs.Flaws.{first_told, flaw_of, first_nonzero, offsets
 use records::layout;
 
 // What is wrong with a record, with the lowest byte of it that is: a spare byte is told before a value bit.
-#[derive(Drop)]
+#[derive(Clone, Copy)]
 pub enum Flaw {
     Clean,
     Spare(usize),

@@ -24,7 +24,7 @@ fn is_flawed(flaw: Flaw) -> bool
 }
 
 // The first record with a flaw, and its flaw.
-#[derive(Drop)]
+#[derive(Clone, Copy)]
 pub enum FirstFlaw {
     AllClean,
     Flawed { place: usize, flaw: Flaw },

@@ -1,4 +1,6 @@
 // What is wrong with a record, and the first record that is; how a buffer of slots is refused; the refusals.
+#![tactic(auto)]
+
 pub mod buffer;
 pub mod flaw;
 pub mod flawed;

@@ -4,7 +4,7 @@ ghost use Rattle.std.proofs.Math.Option.{some};
 ghost use Rattle.checks.specs.Refusals.{refusal, verdict_of};
 
 // `place` is the first record with a flaw where the number is BAD_RECORD, and 0 in every other case.
-#[derive(Drop)]
+#[derive(Clone, Copy)]
 pub struct Refusal {
     pub number: u32,
     pub place: usize,
@@ -38,14 +38,14 @@ pub const LENGTHS_DIFFER: u32 = 12;
 pub const TOTALS_FULL: u32 = 13;
 
 // Of what a call is lent: the first refusal, or that there is none.
-#[derive(Drop)]
+#[derive(Clone, Copy)]
 pub enum Verdict {
     Refused(Refusal),
     Fine,
 }
 
 // A refusal, or a count: of rules, of numbers written, of packets, of slots.
-#[derive(Drop)]
+#[derive(Clone, Copy)]
 pub enum CountAnswer {
     Refused(Refusal),
     Count(usize),

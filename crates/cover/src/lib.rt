@@ -1,4 +1,6 @@
 // The dependents of a rule, which are its cover list.
+#![tactic(auto)]
+
 pub mod dependents;
 pub mod precedence;
 

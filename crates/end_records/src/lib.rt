@@ -1,4 +1,6 @@
 // Slots, writes and reports, as bytes and as values.
+#![tactic(auto)]
+
 pub mod entry;
 pub mod fields;
 pub mod head;

@@ -8,7 +8,7 @@ ghost use Rattle.end_records.specs.MessageStructs.{as_report};
 use crate::head::head_bytes;
 use records::layout;
 
-#[derive(Drop)]
+#[derive(Clone, Copy)]
 pub struct Report {
     pub slot: u16,
     pub sequence: u32,

@@ -12,7 +12,7 @@ use records::layout;
 use records::row::row_at;
 
 // A slot of either end, all bytes of it.
-#[derive(Drop)]
+#[derive(Clone, Copy)]
 pub struct Slot {
     pub sequence: u32,
     pub hits: u32,

@@ -11,7 +11,7 @@ use crate::head::head_bytes;
 use records::layout;
 use records::row::row_at;
 
-#[derive(Drop)]
+#[derive(Clone, Copy)]
 pub struct Write {
     pub slot: u16,
     pub sequence: u32,

@@ -1,4 +1,6 @@
 // Isolating a rule for a key.
+#![tactic(auto)]
+
 pub mod rounds;
 pub mod separation;
 
@@ -12,7 +14,7 @@ use checks::refusal::{CountAnswer, Refusal, Verdict, refused};
 use records::layout;
 
 // What is said, and the isolated rule: its pattern, the number of fixed bits and the wildcard bits left. On a refusal they are all 0.
-#[derive(Drop)]
+#[derive(Clone, Copy)]
 pub struct IsolateAnswer {
     pub verdict: Verdict,
     pub value: [u8; layout::KEY_SIZE],

@@ -18,7 +18,7 @@ use records::row::row_at;
 use ternary::Pattern;
 
 // A rule isolated for a key: the pattern, the number of fixed bits, and the wildcard bits left.
-#[derive(Drop)]
+#[derive(Clone, Copy)]
 pub struct Isolated {
     pub value: [u8; KEY_SIZE],
     pub mask: [u8; KEY_SIZE],

@@ -31,7 +31,7 @@ fn separates(policy: &[u8], key: [u8; layout::KEY_SIZE], number: usize, p: usize
 }
 
 // For each of the standing that a byte of the key separates, the bits at which it does; the first `count` bytes.
-#[derive(Drop)]
+#[derive(Clone, Copy)]
 pub struct Column {
     pub bytes: [u8; layout::MOST_RULES],
     pub count: usize,

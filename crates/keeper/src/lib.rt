@@ -1,4 +1,6 @@
 // The keeper receives a report, and lists its open slots.
+#![tactic(auto)]
+
 pub mod open_slots;
 pub mod reports;
 

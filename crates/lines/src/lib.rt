@@ -1,4 +1,6 @@
 // The lines that the program prints, as text by value. Each is built from its end.
+#![tactic(auto)]
+
 pub mod put;
 
 ghost use Rattle.std.specs.Prelude.{◌≡◌, length};

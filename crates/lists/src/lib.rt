@@ -1,4 +1,6 @@
 // Lists of numbers of rules or of slots, by value.
+#![tactic(auto)]
+
 ghost use Rattle.std.specs.Prelude.{◌≡◌, ◌*◌, ◌≤◌, length, take};
 ghost use Rattle.buffers.specs.Parts.{splice};
 ghost use Rattle.records.specs.Layout.{most_rules};
@@ -10,7 +12,7 @@ use checks::refusal::CountAnswer;
 use records::layout;
 
 // The first `count` items are the list; what the others hold does not matter.
-#[derive(Drop)]
+#[derive(Clone, Copy)]
 pub struct Numbers {
     pub items: [u16; layout::MOST_RULES],
     pub count: usize,

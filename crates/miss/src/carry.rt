@@ -14,7 +14,7 @@ use records::layout;
 use records::outcome::Outcome;
 
 // A miss's refusal, or its outcome.
-#[derive(Drop)]
+#[derive(Clone, Copy)]
 pub enum MissAnswer {
     Refused(Refusal),
     Outcome(Outcome),

@@ -14,7 +14,7 @@ use records::outcome::Outcome;
 use records::{kinds, layout};
 
 // The outcome of a miss, and the write that is given in outcomes 2, 3 and 5; in the others it is all 0.
-#[derive(Drop)]
+#[derive(Clone, Copy)]
 pub struct Decision {
     pub outcome: Outcome,
     pub write: Write,

@@ -1,4 +1,6 @@
 // A miss arrives at the keeper: what it comes to, and the write that is given.
+#![tactic(auto)]
+
 pub mod carry;
 pub mod decide;
 pub mod decision;

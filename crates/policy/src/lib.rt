@@ -1,4 +1,6 @@
 // The policy that a caller lends: its check, and the best rule of a key.
+#![tactic(auto)]
+
 pub mod lent;
 pub mod record;
 pub mod search;
@@ -30,7 +32,7 @@ pub fn check(policy: &[u8]) -> CountAnswer
 }
 
 // A refusal, or the best rule of a key, if it has one.
-#[derive(Drop)]
+#[derive(Clone, Copy)]
 pub enum BestAnswer {
     Refused(Refusal),
     NoRule,

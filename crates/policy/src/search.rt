@@ -8,7 +8,7 @@ ghost use Rattle.policy.specs.Best.{best_found};
 use records::layout;
 
 // The best rule of a key: its number and its action.
-#[derive(Drop)]
+#[derive(Clone, Copy)]
 pub enum BestFound {
     NoRule,
     Rule { number: u16, action: u16 },

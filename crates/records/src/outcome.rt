@@ -6,7 +6,7 @@ ghost use Rattle.records.specs.Outcomes.{decode_outcome, encode_outcome, as_outc
 
 use crate::layout;
 
-#[derive(Drop)]
+#[derive(Clone, Copy)]
 pub struct Outcome {
     pub outcome: u8,
     pub action: u16,

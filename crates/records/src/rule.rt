@@ -9,7 +9,7 @@ ghost use Rattle.records.specs.Structs.{as_rule};
 use crate::layout;
 use crate::row::row_at;
 
-#[derive(Drop)]
+#[derive(Clone, Copy)]
 pub struct Rule {
     pub value: [u8; layout::KEY_SIZE],
     pub mask: [u8; layout::KEY_SIZE],

@@ -1,4 +1,6 @@
 // The program, in its folder.
+#![tactic(auto)]
+
 fn main() {
     replay_files::run_here();
 }

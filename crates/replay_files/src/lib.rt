@@ -1,4 +1,6 @@
 // The program: reads slots.txt, policy.bin and trace.bin, and prints what they come to.
+#![tactic(auto)]
+
 ghost use Rattle.std.specs.Prelude.{◌≤◌, length};
 ghost use Rattle.replay_text.specs.Text.{most_text};
 ghost use Rattle.io.specs.Counts.{IsPrefixLen};
@@ -13,7 +15,7 @@ const POLICY_ROOM: usize = replay_text::files::MOST_POLICY_BYTES + 1;
 const TRACE_ROOM: usize = replay_text::files::MOST_TRACE_BYTES + 1;
 
 // What one read gave: whether it worked, and how many bytes came, 0 at the file's end.
-#[derive(Drop)]
+#[derive(Clone, Copy)]
 struct Got {
     worked: bool,
     count: usize,

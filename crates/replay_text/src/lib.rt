@@ -1,4 +1,6 @@
 // What the program prints, written into a lent output, from the bytes of its three files.
+#![tactic(auto)]
+
 pub mod files;
 
 ghost use Rattle.std.specs.Prelude.{◌≡◌, ◌*◌, ◌≤◌, length};

@@ -1,4 +1,6 @@
 // A trace run.
+#![tactic(auto)]
+
 pub mod packet;
 pub mod refusals;
 pub mod send;
@@ -12,7 +14,7 @@ use records::layout;
 use totals::Totals;
 
 // What a run answers, and the totals after it; a refusal leaves them as they were.
-#[derive(Drop)]
+#[derive(Clone, Copy)]
 pub struct Ran {
     pub answer: CountAnswer,
     pub totals: Totals,

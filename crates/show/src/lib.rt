@@ -1,4 +1,6 @@
 // Showing the decision: the record that decides for a key, lent back from the buffer that holds it.
+#![tactic(auto)]
+
 ghost use Rattle.std.specs.Prelude.{◌≡◌};
 ghost use Rattle.show.specs.Answers.{show_answer, shown_part};
 
@@ -6,7 +8,7 @@ use checks::refusal::{Refusal, Verdict};
 use records::layout;
 
 // Which record decides: the slot of that number, the rule of that number, or none; or the refusal.
-#[derive(Drop)]
+#[derive(Clone, Copy)]
 pub enum ShowAnswer {
     Refused(Refusal),
     NoRule,

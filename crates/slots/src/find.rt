@@ -27,7 +27,7 @@ fn slot_holds(s: &[u8], i: usize, key: &[u8]) -> bool
 }
 
 // The lowest slot that takes a key, or that there is none.
-#[derive(Drop)]
+#[derive(Clone, Copy)]
 pub enum SlotFound {
     Nowhere,
     At(usize),

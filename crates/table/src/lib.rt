@@ -1,4 +1,6 @@
 // The table looks a key up, and receives a write.
+#![tactic(auto)]
+
 pub mod lookups;
 pub mod writes;
 
@@ -10,7 +12,7 @@ use crate::writes::write_answer;
 use checks::refusal::{Refusal, Verdict};
 
 // A refusal, a miss, or the slot, rule and action of a hit.
-#[derive(Drop)]
+#[derive(Clone, Copy)]
 pub enum LookupAnswer {
     Refused(Refusal),
     Miss,

@@ -7,7 +7,7 @@ use checks::refusal::Refusal;
 use records::layout;
 
 // What a lookup comes to: a refusal, no slot, or the slot of that number.
-#[derive(Drop)]
+#[derive(Clone, Copy)]
 pub(crate) enum Found {
     Refused(Refusal),
     Miss,

@@ -9,7 +9,7 @@ ghost use Rattle.ternary.specs.Fixed.{Fixed};
 use crate::{KEY_SIZE, POSITIONS, Pattern};
 
 // Where the value has a bit under a wildcard.
-#[derive(Drop)]
+#[derive(Clone, Copy)]
 pub enum Stray {
     Clean,
     At(usize),

@@ -1,6 +1,8 @@
 // Asks the two ends the questions of cases.bin about the parts of buffers.bin, and prints a line for each: its label, the answer, each slot
 // that changed, the answer's bytes in the output, and `changed` where another byte of the output did.
 // tests/data/ends_cases.py says how the two files are laid out, and makes them.
+#![tactic(auto)]
+
 use checks::refusal::{CountAnswer, Verdict};
 use records::layout;
 use test_cases::files;

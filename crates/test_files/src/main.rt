@@ -1,4 +1,6 @@
 // The program over files that are missing, that can't be read or that are too long, each case in a folder of its own; prints the case's name first.
+#![tactic(auto)]
+
 use libc::STDOUT_FILENO;
 
 // One case: its name as a line, and what the program prints of the files of these names.

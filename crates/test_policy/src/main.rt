@@ -1,5 +1,7 @@
 // Asks the library the questions of cases.bin about the policies of policies.bin, and prints a line for each: its label and the answer.
 // tests/data/policy_cases.py says how the two files are laid out, and makes them.
+#![tactic(auto)]
+
 ghost use Rattle.std.specs.Prelude.{◌<◌};
 ghost use Rattle.ternary.specs.Sizes.{key_size};
 ghost use Rattle.records.specs.Rules.{rule_count};

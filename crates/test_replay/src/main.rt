@@ -1,5 +1,7 @@
 // Asks what the program prints of the files of each case of cases.bin, whose bytes are parts of parts.bin; prints the case's label, then the text.
 // tests/data/replay_cases.py says how the two files are laid out, and makes them.
+#![tactic(auto)]
+
 ghost use Rattle.std.specs.Prelude.{◌≤◌, length};
 ghost use Rattle.replay_text.specs.Text.{most_text};
 

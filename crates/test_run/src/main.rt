@@ -1,6 +1,8 @@
 // Makes the runs of cases.bin over the parts of buffers.bin, and prints a line for each: its label, the answer, the totals, each slot of the
 // table and of the keeper that changed, the outcomes' bytes, and `changed` where another byte of the output did.
 // tests/data/run_cases.py says how the two files are laid out, and makes them.
+#![tactic(auto)]
+
 ghost use Rattle.std.specs.Prelude.{◌<◌};
 
 use checks::refusal::CountAnswer;

@@ -1,4 +1,6 @@
 // Numbers as text; a line of text, built from its end.
+#![tactic(auto)]
+
 pub mod slots_text;
 
 ghost use Rattle.std.specs.Prelude.{◌≡◌, [], ◌∷◌, ◌++◌, ◌+◌, ◌%◌, ◌≤◌, length};
@@ -15,7 +17,7 @@ const MOST_DIGITS: usize = 20;
 pub const LINE_SIZE: usize = 5 * (MOST_DIGITS + 1);
 
 // The text is the bytes from `at` on.
-#[derive(Drop)]
+#[derive(Clone, Copy)]
 pub struct Line {
     pub bytes: [u8; LINE_SIZE],
     pub at: usize,

@@ -1,4 +1,6 @@
 // The totals that runs advance.
+#![tactic(auto)]
+
 ghost use Rattle.std.specs.Prelude.{◌≡◌, [], ◌∷◌, ◌+◌, eqb};
 ghost use Rattle.ends.specs.Totals.{is_miss, totals_after};
 ghost use Rattle.records.specs.Layout.{most_packets};
@@ -10,7 +12,7 @@ use records::outcome::Outcome;
 
 // Packets, hits (outcome 1), misses (2 to 5), no rule (0) and evictions (3).
 #[repr(C)]
-#[derive(Drop)]
+#[derive(Clone, Copy)]
 pub struct Totals {
     pub packets: u64,
     pub hits: u64,
