@@ -1,0 +1,5 @@
+-- `buffers::put_be16` meets its contract: the bytes of the number are copied. Assumes nothing.
+use Rattle.buffers.proofs.put_be16.Goals as goal
+
+pub returns : goal.returns
+returns c = cc

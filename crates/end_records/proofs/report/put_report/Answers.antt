@@ -1,0 +1,19 @@
+-- `end_records::report::put_report` meets its contract: the hits follow the head. Assumes nothing.
+use mathlib.Core.Path.{◌≡◌, refl, ◌∙◌}
+use mathlib.Core.List.{[], ◌∷◌, ◌++◌}
+use native.Mathlib.Omega.{arith}
+use Rattle.buffers.specs.BigEndian.{to_be}
+use Rattle.buffers.specs.Parts.{splice}
+use Rattle.buffers.proofs.PartLaws.{splice-next}
+use Rattle.records.specs.Layout.{report_hits, is_report}
+use Rattle.end_records.specs.Reports.{encode_report}
+use Rattle.end_records.proofs.report.put_report.Goals as goal
+
+pub returns : goal.returns
+unfolding encode_report
+returns c =
+    let a = c.args in
+    let x = a.x in
+    let head = (is_report ∷ 0 ∷ []) ++ (to_be 2 x.slot ++ to_be 4 x.sequence) in
+    let e : c.put_bytes-2.new.0 ≡ splice report_hits (to_be 4 x.hits-1) (splice 0 head a.out-1.now) = cc in
+    e ∙ splice-next 0 report_hits head (to_be 4 x.hits-1) a.out-1.now refl (omega arith)

@@ -1,0 +1,20 @@
+-- `keeper::reports::check_slot` meets its contract: at each `return` the tests that led there say which refusal it is. Assumes nothing.
+use mathlib.Core.Path.{refl}
+use Rattle.keeper.proofs.ReportLaws.{no_slot, no-sequence, too-new, in-time}
+use Rattle.keeper.proofs.reports.check_slot.Goals as goal
+
+pub returns-then-keeper-i : goal.returns-then-keeper-i
+returns-then-keeper-i c = no_slot _ _ c.wide-i.ensures c.if-keeper-i.true c.refused.ensures
+
+pub returns-then-x-eq0 : goal.returns-then-x-eq0
+returns-then-x-eq0 c =
+    no-sequence _ _ c.wide-i.ensures c.if-keeper-i.false c.if-x-eq0.true c.refused-then-x-eq0.ensures
+
+pub returns-then-sequence_at-x : goal.returns-then-sequence_at-x
+returns-then-sequence_at-x c =
+    too-new _ _ c.wide-i.ensures c.if-keeper-i.false c.sequence_at.ensures c.if-x-eq0.false c.if-sequence_at-x.true
+    c.refused-then-sequence_at-x.ensures
+
+pub returns : goal.returns
+returns c =
+    in-time _ _ c.wide-i.ensures c.if-keeper-i.false c.sequence_at.ensures c.if-x-eq0.false c.if-sequence_at-x.false refl

@@ -1,0 +1,20 @@
+-- `miss::decide::with_rule` meets its contract: a slot that takes the key, or a fresh entry. Assumes nothing.
+use Rattle.miss.proofs.DecideLaws.{held, held-inside, not-held}
+use Rattle.miss.proofs.decide.with_rule.Goals as goal
+
+pub write_again-requires : goal.write_again-requires
+write_again-requires c =
+    let a = c.args in
+    (held-inside a.policy.now a.key.now a.keeper.now c.first_slot_for.ensures c.in-At.is, c.requires.1.few-there)
+
+pub returns-in-At : goal.returns-in-At
+returns-in-At c =
+    let a = c.args in
+    held a.policy.now a.key.now a.keeper.now a.number c.first_slot_for.ensures c.in-At.is
+    (c.write_again.ensures a.policy.now)
+
+pub returns-in-Nowhere : goal.returns-in-Nowhere
+returns-in-Nowhere c =
+    let a = c.args in
+    not-held a.policy.now a.key.now a.keeper.now a.number c.first_slot_for.ensures c.in-Nowhere.is
+    c.fresh_entry.ensures

@@ -1,0 +1,36 @@
+-- `policy::record::rule_record` meets its contract: a record that is shown is one of the policy, whose part is lent. Assumes nothing.
+use mathlib.Core.Path.{◌≡◌, sym, ◌∙◌}
+use mathlib.Core.Option.{none}
+use Prim.Native.Nat.{◌<◌}
+use native.Mathlib.Omega.{arith}
+use native.Mathlib.Nat.{add-sub_cancel_left}
+use Rattle.ternary.specs.Sizes.{key_size}
+use Rattle.records.specs.Rules.{rule_count}
+use Rattle.policy.specs.RecordAnswers.{record_refusal, shown_record}
+use Rattle.policy.proofs.RecordShown.{record-refused, record-shown, shown-below}
+use Rattle.policy.proofs.record.rule_record.Goals as goal
+
+-- the record is shown
+shown : (c : goal.In-Fine) → let a = c.args in record_refusal a.policy.now a.number ≡ none
+shown c = record-shown _ _ (sym c.in-Fine.is ∙ c.record_answer.ensures)
+
+-- so its number is below the rule count
+below : (c : goal.In-Fine) → let a = c.args in a.number < rule_count key_size a.policy.now
+below c = shown-below _ _ (shown c)
+
+pub overflow_mul-at : goal.overflow_mul-at
+overflow_mul-at c = omega (arith, below c)
+
+pub overflow_add-result : goal.overflow_add-result
+overflow_add-result c = omega (arith, below c)
+
+pub slice_bounds-result-end-in-Fine : goal.slice_bounds-result-end-in-Fine
+slice_bounds-result-end-in-Fine c = omega (arith, below c)
+
+pub returns-in-Refused : goal.returns-in-Refused
+unfolding shown_record
+returns-in-Refused c = rw (record-refused _ _ _ (sym c.in-Refused.is ∙ c.record_answer.ensures))
+
+pub returns-in-Fine : goal.returns-in-Fine
+unfolding shown_record
+returns-in-Fine c = rw (shown c, add-sub_cancel_left)

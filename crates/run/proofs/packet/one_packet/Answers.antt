@@ -1,0 +1,29 @@
+-- `run::packet::one_packet` meets its contract: a hit is reported to the keeper, and a miss goes to it. Assumes nothing.
+use borrow.Author.Rules.{rules}
+use mathlib.Core.Path.{◌≡◌}
+use mathlib.Core.Logic.{◌⊎◌, ⊎_elim}
+use Prim.Native.Nat.{ℕ}
+use native.Mathlib.Omega.{arith}
+use denote.Enum.Declared.{tag_of}
+use Rattle.table.specs.declared.LookupAnswer.{LookupAnswer}
+use Rattle.table.specs.declared.LookupAnswer.TheVariants.{Refused, Miss, Hit}
+use Rattle.table.specs.contracts.LookupAnswer.{the_type}
+use Rattle.ternary.proofs.ByteLaws.{bytes_of}
+use Rattle.run.proofs.HitLaws.{packet-hit, packet-missed}
+use Rattle.run.proofs.packet.one_packet.Goals as goal
+
+pub returns-in-Hit : goal.returns-in-Hit
+returns-in-Hit c =
+    packet-hit c.requires (search rules) c.lookup.ensures c.in-Hit.is
+    (search rules) (bytes_of _ c.type_inv.table) c.report.ensures
+
+-- what is of neither other kind is no hit
+no_hit : (x : LookupAnswer) → (tag_of the_type x ≡ 0) ⊎ (tag_of the_type x ≡ 1) → (slot rule action : ℕ) → x ≡ Hit slot rule action → ◌≡◌ {A = ℕ} 0 1
+no_hit (Refused r) h slot rule action e = cc
+no_hit Miss h slot rule action e = cc
+no_hit (Hit s u a) h slot rule action e = absurd (⊎_elim (λ e. omega arith) (λ e. omega arith) h)
+
+pub returns : goal.returns
+returns c =
+    packet-missed c.requires (search rules) c.lookup.ensures (no_hit _ c.in-Hit.keys2)
+    c.missed.ensures

@@ -1,0 +1,34 @@
+-- `slots::find::slot_holds` meets its contract: the sequence and the rows are those of the slot. Assumes nothing.
+use Prim.Native.Nat.{◌+◌, ◌*◌}
+use native.Mathlib.Omega.{arith}
+use native.Mathlib.Nat.{add-sub_cancel_left}
+use borrow.Author.Tests.{eq-eqb, ne_eqb}
+use Rattle.ends.specs.Ends.{holds}
+use Rattle.buffers.proofs.PartLaws.{part_length}
+use Rattle.ternary.specs.Sizes.{key_size}
+use Rattle.records.specs.Layout.{slot_value, slot_mask, slot_size}
+use Rattle.end_records.proofs.InPlace.{value-in-place, mask-in-place}
+use Rattle.slots.proofs.find.slot_holds.Goals as goal
+
+pub returns-then-sequence_at-eq0 : goal.returns-then-sequence_at-eq0
+unfolding holds
+returns-then-sequence_at-eq0 c = rw (← c.sequence_at.ensures, eq-eqb _ _ c.if-sequence_at-eq0.true)
+
+pub returns : goal.returns
+unfolding holds
+returns c =
+    let a = c.args in
+    let value = slot_size key_size * a.i + slot_value in
+    let mask = slot_size key_size * a.i + slot_mask key_size in
+    rw (
+      ← c.sequence_at.ensures,
+      ne_eqb _ _ c.if-sequence_at-eq0.false,
+      value-in-place key_size a.s.now a.i c.requires.0,
+      mask-in-place key_size a.s.now a.i c.requires.0,
+    )
+    (rw (
+      add-sub_cancel_left value key_size,
+      add-sub_cancel_left mask key_size,
+      part_length key_size value a.s.now (omega arith),
+    )
+    at c.matches_row.ensures)

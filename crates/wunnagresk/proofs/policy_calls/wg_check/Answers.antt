@@ -1,0 +1,7 @@
+-- `wunnagresk::policy_calls::wg_check` meets its contract: the inner call's answer as numbers. Assumes nothing.
+use mathlib.Core.Path.{ap, ◌∙◌}
+use Rattle.c_answers.specs.Answers.{count_for_c}
+use Rattle.wunnagresk.proofs.policy_calls.wg_check.Goals as goal
+
+pub returns : goal.returns
+returns c = c.count_for_c.ensures ∙ ap count_for_c c.check.ensures

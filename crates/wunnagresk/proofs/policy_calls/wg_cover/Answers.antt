@@ -1,0 +1,9 @@
+-- `wunnagresk::policy_calls::wg_cover` meets its contract: the inner call's answer as numbers, its buffers as they are. Assumes nothing.
+use mathlib.Core.Path.{ap, ◌∙◌}
+use Rattle.c_answers.specs.Answers.{count_for_c}
+use Rattle.wunnagresk.proofs.policy_calls.wg_cover.Goals as goal
+
+pub returns : goal.returns
+returns c =
+    let k = c.cover.ensures in
+    record { answer = c.count_for_c.ensures ∙ ap count_for_c k.answer; out-after = k.out-after }

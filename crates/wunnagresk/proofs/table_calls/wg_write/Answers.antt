@@ -1,0 +1,9 @@
+-- `wunnagresk::table_calls::wg_write` meets its contract: the inner call's answer as numbers, its buffers as they are. Assumes nothing.
+use mathlib.Core.Path.{ap, ◌∙◌}
+use Rattle.c_answers.specs.Answers.{done_for_c}
+use Rattle.wunnagresk.proofs.table_calls.wg_write.Goals as goal
+
+pub returns : goal.returns
+returns c =
+    let k = c.write.ensures in
+    record { answer = c.done_for_c.ensures ∙ ap done_for_c k.answer; table-after = k.table-after; out-after = k.out-after }
