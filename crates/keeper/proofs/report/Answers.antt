@@ -6,7 +6,7 @@ use Rattle.keeper.proofs.ReportLaws.{Accepted, accepted-of, reported-refused, re
 use Rattle.keeper.proofs.report.Goals as goal
 
 -- the report is not refused
-accepted : (c : goal.In_default) → let a = c.args in Accepted a.keeper-1.now a.message.now
+accepted : (c : goal.In_default) → let a = c.args in Accepted a.keeper.now a.message.now
 accepted c = accepted-of _ _ c.may_report.ensures c.in_default.is
 
 pub returns-in-Refused : goal.returns-in-Refused

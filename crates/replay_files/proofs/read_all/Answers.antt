@@ -16,7 +16,7 @@ counts n xs l = (l, sym (length-take-le n xs l))
 pub returns-then-n-eq0 : goal.returns-then-n-eq0
 returns-then-n-eq0 c =
     let l = c.loop-at in
-    counts l.at (put_mid l.at (length l.buf-1 - l.at) l.buf-1 c.read_once-got.new.1.0) (search rules)
+    counts l.at (put_mid l.at (length l.buf - l.at) l.buf c.read_once-got.new.part.0) (search rules)
 
 pub returns : goal.returns
 returns c = counts c.loop-at.at c.loop-at.buf (search rules)

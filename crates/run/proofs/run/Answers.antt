@@ -15,7 +15,7 @@ returns-in-Refused c = run-refused _ _ _ _ _ _ c.check_run.ensures c.in-Refused.
 
 -- the run is not refused
 fine : (c : goal.In_default) → let a = c.args in
-    run_refusal a.policy.now a.trace.now a.table-1.now a.keeper-1.now (length a.out-1.now) (as_totals a.totals) ≡ none
+    run_refusal a.policy.now a.trace.now a.table.now a.keeper.now (length a.out.now) (as_totals a.totals) ≡ none
 fine c = verdict-fine _ c.check_run.ensures c.in_default.is
 
 pub all_packets-sums-requires : goal.all_packets-sums-requires

@@ -10,7 +10,7 @@ use Rattle.table.proofs.lookup.Goals as goal
 
 -- the slot that was found
 there : (c : goal.In-Slot-2) → let a = c.args in
-    Slot c.in-Slot.i ≡ find_answer a.key.now a.table-1.now (length a.out-1.now)
+    Slot c.in-Slot.i ≡ find_answer a.key.now a.table.now (length a.out.now)
 there c = sym c.in-Slot.is ∙ c.find.ensures
 
 pub count_hit-x-requires : goal.count_hit-x-requires

@@ -16,11 +16,11 @@ returns-in-Refused c = received-refused _ _ _ _ (sym c.in-Refused.is ∙ c.write
 
 -- the write is not refused
 taken : (c : goal.In_default) → let a = c.args in
-    Fine ≡ verdict_of (write_call_refusal a.table-1.now a.message.now (length a.out-1.now))
+    Fine ≡ verdict_of (write_call_refusal a.table.now a.message.now (length a.out.now))
 taken c = sym c.in_default.is ∙ c.write_answer.ensures
 
 good : (c : goal.In_default) → let a = c.args in
-    GoodCall a.table-1.now a.message.now (length a.out-1.now)
+    GoodCall a.table.now a.message.now (length a.out.now)
 good c = taken-good _ _ _ (taken c)
 
 pub write_of-w-requires : goal.write_of-w-requires

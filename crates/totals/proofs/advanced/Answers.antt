@@ -4,4 +4,4 @@ use Rattle.totals.proofs.advanced.Goals as goal
 
 pub returns : goal.returns
 returns c =
-    advanced-by _ _ c.one_of_lem.ensures c.one_miss.ensures c.one_of-2.ensures c.one_of-3.ensures
+    advanced-by _ _ c.one_of.ensures c.one_miss.ensures c.one_of-2.ensures c.one_of-3.ensures

@@ -9,5 +9,5 @@ use Rattle.c_answers.proofs.isolated.put_pattern.Goals as goal
 pub returns : goal.returns
 returns c =
     let a = c.args in
-    let e : c.put_bytes-2.new.0 ≡ splice key_size a.t3 (splice 0 a.t2 a.out-1.now) = cc in
-    e ∙ splice-next 0 key_size a.t2 a.t3 a.out-1.now (search rules) (search rules)
+    let e : c.put_bytes-2.new.s ≡ splice key_size a.mask (splice 0 a.value a.out.now) = cc in
+    e ∙ splice-next 0 key_size a.value a.mask a.out.now (search rules) (search rules)

@@ -15,5 +15,5 @@ returns c =
     let a = c.args in
     let x = a.x in
     let head = (is_report ∷ 0 ∷ []) ++ (to_be 2 x.slot ++ to_be 4 x.sequence) in
-    let e : c.put_bytes-2.new.0 ≡ splice report_hits (to_be 4 x.hits-1) (splice 0 head a.out-1.now) = cc in
-    e ∙ splice-next 0 report_hits head (to_be 4 x.hits-1) a.out-1.now refl (omega arith)
+    let e : c.put_bytes-2.new.s ≡ splice report_hits (to_be 4 x.hits) (splice 0 head a.out.now) = cc in
+    e ∙ splice-next 0 report_hits head (to_be 4 x.hits) a.out.now refl (omega arith)

@@ -11,8 +11,8 @@ use Rattle.end_records.proofs.slot.put_slot.Goals as goal
 pub returns : goal.returns
 returns c =
     let a = c.args in
-    let e : c.put_bytes.new.0 ≡ put_slot key_size a.s-1.now a.i (as_slot a.x) = cc in
+    let e : c.put_bytes.new.s ≡ put_slot key_size a.s.now a.i (as_slot a.x) = cc in
     record {
       bytes = e;
-      meaning = ap (slots key_size) e ∙ slots-put key_size a.s-1.now a.i (as_slot a.x) c.requires (omega arith) (search rules);
+      meaning = ap (slots key_size) e ∙ slots-put key_size a.s.now a.i (as_slot a.x) c.requires (omega arith) (search rules);
     }

@@ -15,5 +15,5 @@ slice_bounds-put_bytes-end c =
 pub returns : goal.returns
 returns c =
     let line = c.args.line in
-    let e : length line.bytes-1 ≡ line_size = search rules in
-    (c.put_bytes.ensures ∙ rw (lent line.bytes-1 line.at e), simp length-drop (omega arith))
+    let e : length line.bytes ≡ line_size = search rules in
+    (c.put_bytes.ensures ∙ rw (lent line.bytes line.at e), simp length-drop (omega arith))

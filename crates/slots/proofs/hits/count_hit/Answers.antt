@@ -22,7 +22,7 @@ returns c =
     let new = as_slot c.counted-new.result in
     let bytes = bytes_of bs c.slice_known-1.given in
     let there : new ≡ counted (slot_in key_size bs i) = c.counted-new.ensures ∙ ap counted c.slot_at-old.ensures in
-    let e : c.put_be32.new.0 ≡ put_slot key_size bs i new =
+    let e : c.put_be32.new.s ≡ put_slot key_size bs i new =
     c.put_be32.ensures
     ∙ ap (λ (y : Slot). splice (slot_size key_size * i + slot_hits) (to_be 4 y.hits) bs) there
     ∙ put-hits key_size bs i (omega arith) bytes _

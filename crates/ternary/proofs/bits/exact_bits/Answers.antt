@@ -12,12 +12,11 @@ use Rattle.ternary.proofs.ByteLaws.{bytes_of}
 use Rattle.ternary.proofs.CountLaws.{ones-row}
 use Rattle.ternary.proofs.bits.exact_bits.Goals as goal
 
-mask-bytes : (s : goal.Start) → Bytes s.args.mask
-mask-bytes s = bytes_of _ (λ i. search rules)
-
 -- the byte at the loop's i has at most eight ones
 few : (c : goal.In-loop-i) → ones (get_or c.args.mask c.loop-i.i 0) ≤ 8
-few c = ones-le 8 _ ((mask-bytes c).byte c.loop-i.i)
+few c =
+    let mask-bytes : Bytes c.args.mask = bytes_of _ (λ i. search rules) in
+    ones-le 8 _ (mask-bytes.byte c.loop-i.i)
 
 pub loop-i-init : goal.loop-i-init
 unfolding sum_below
@@ -35,6 +34,7 @@ loop-i-preserved c = omega (arith, few c, sum-next (λ k. ones (get_or c.args.ma
 pub returns : goal.returns
 returns c =
     let last : c.loop-i.i ≡ length c.args.mask = omega arith in
+    let mask-bytes : Bytes c.args.mask = bytes_of _ (λ i. search rules) in
     c.loop-i.invariant.2
     ∙ ap (sum_below (λ k. ones (get_or c.args.mask k 0))) last
-    ∙ ones-row (length c.args.mask) _ c.args.mask (mask-bytes c) (omega arith)
+    ∙ ones-row (length c.args.mask) _ c.args.mask mask-bytes (omega arith)

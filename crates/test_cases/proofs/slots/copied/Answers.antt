@@ -10,4 +10,4 @@ returns-then-old-room c = copied_none _ _ (search rules)
 pub returns : goal.returns
 returns c =
     let a = c.args in
-    simp unary_clauses (rw c.put_bytes.ensures (copied_all a.old.now a.room-1.now (search rules)))
+    simp unary_clauses (rw c.put_bytes.ensures (copied_all a.old.now a.room.now (search rules)))

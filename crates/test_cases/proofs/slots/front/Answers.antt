@@ -8,4 +8,4 @@ pub returns-then-n-s : goal.returns-then-n-s
 returns-then-n-s c = part-missing 0 _ _ (search rules)
 
 pub returns : goal.returns
-returns c = let a = c.args in simp unary_clauses (part-there 0 a.n a.s-1.now (search rules))
+returns c = let a = c.args in simp unary_clauses (part-there 0 a.n a.s.now (search rules))
