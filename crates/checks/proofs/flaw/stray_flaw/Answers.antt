@@ -13,24 +13,19 @@ use Rattle.buffers.proofs.PartLaws.{part_length}
 use Rattle.checks.proofs.FlawLaws.{stray-inside}
 use Rattle.checks.proofs.flaw.stray_flaw.Goals as goal
 
--- what the search over the two rows answered
-told : (c : goal.After-first_stray)
-    → let a = c.args in
-    c.first_stray.result ≡ stray_of (first_stray key_size (part key_size a.value a.r.now) (part key_size a.mask a.r.now))
-told c =
-    let a = c.args in
-    rw (
-      add-sub_cancel_left a.value key_size,
-      add-sub_cancel_left a.mask key_size,
-      part_length key_size a.value a.r.now (omega arith),
-    )
-    at c.first_stray.ensures
-
 -- a stray bit lies inside the row
 found : (c : goal.In-At)
     → let a = c.args in
     first_stray key_size (part key_size a.value a.r.now) (part key_size a.mask a.r.now) ≡ some c.in-At.i
-found c = of-stray _ _ (sym c.in-At.is ∙ told c)
+found c =
+    let a = c.args in
+    of-stray _ _
+    (rw (
+      add-sub_cancel_left a.value key_size,
+      add-sub_cancel_left a.mask key_size,
+      part_length key_size a.value a.r.now (omega arith),
+    )
+    at c.in-At.ensures)
 
 pub overflow_add-result : goal.overflow_add-result
 overflow_add-result c = let l = stray-inside key_size _ _ _ (found c) in search rules
@@ -39,7 +34,15 @@ overflow_add-result c = let l = stray-inside key_size _ _ _ (found c) in search 
 missed : (c : goal.In-Clean)
     → let a = c.args in
     first_stray key_size (part key_size a.value a.r.now) (part key_size a.mask a.r.now) ≡ none
-missed c = of-clean _ (sym c.in-Clean.is ∙ told c)
+missed c =
+    let a = c.args in
+    of-clean _
+    (rw (
+      add-sub_cancel_left a.value key_size,
+      add-sub_cancel_left a.mask key_size,
+      part_length key_size a.value a.r.now (omega arith),
+    )
+    at c.in-Clean.ensures)
 
 pub returns-in-Clean : goal.returns-in-Clean
 returns-in-Clean c = rw (missed c)
