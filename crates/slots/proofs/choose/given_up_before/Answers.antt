@@ -3,12 +3,12 @@ use borrow.Author.Tests.{eq-eqb, ne_eqb, lt-ltb, le-ltb}
 use Rattle.slots.proofs.choose.given_up_before.Goals as goal
 
 pub returns-then-hits-others : goal.returns-then-hits-others
-returns-then-hits-others c = rw (← c.Hits-at.ensures, ← c.hits_at-others.ensures, lt-ltb _ _ c.if-hits-others.true)
+returns-then-hits-others c = rw (← c.hits_at-hits.ensures, ← c.hits_at-others.ensures, lt-ltb _ _ c.if-hits-others.true)
 
 pub returns-then-hits-others-2 : goal.returns-then-hits-others-2
 returns-then-hits-others-2 c =
     rw (
-      ← c.Hits-at.ensures,
+      ← c.hits_at-hits.ensures,
       ← c.hits_at-others.ensures,
       ← c.sequence_at.ensures,
       ← c.sequence_at-then-hits-others-2.ensures,
@@ -18,4 +18,4 @@ returns-then-hits-others-2 c =
 
 pub returns : goal.returns
 returns c =
-    rw (← c.Hits-at.ensures, ← c.hits_at-others.ensures, le-ltb _ _ c.if-hits-others.false, ne_eqb _ _ c.if-hits-others-2.false)
+    rw (← c.hits_at-hits.ensures, ← c.hits_at-others.ensures, le-ltb _ _ c.if-hits-others.false, ne_eqb _ _ c.if-hits-others-2.false)
