@@ -11,11 +11,11 @@ use Rattle.isolate.proofs.may_isolate.Goals as goal
 
 -- the policy is not refused, and n is its rule count
 fine : (c : goal.In-Count) → policy_refusal c.args.policy.now ≡ none
-fine c = check-passed _ _ (sym c.in-Count.is ∙ c.check.ensures)
+fine c = check-passed _ _ (c.in-Count.ensures)
 
 counted : (c : goal.In-Count)
     → c.in-Count.n ≡ rule_count key_size c.args.policy.now
-counted c = check-count _ _ (sym c.in-Count.is ∙ c.check.ensures)
+counted c = check-count _ _ (c.in-Count.ensures)
 
 pub returns-then-key-ne-KEY_SIZE : goal.returns-then-key-ne-KEY_SIZE
 returns-then-key-ne-KEY_SIZE c = c.refused.ensures ∙ said-key _ _ _ (fine c) c.if-key-ne-KEY_SIZE.true
@@ -28,7 +28,7 @@ pub best_rule-requires : goal.best_rule-requires
 best_rule-requires c = (passed-few _ (fine c), c.if-key-ne-KEY_SIZE.false)
 
 pub returns-in-Refused : goal.returns-in-Refused
-returns-in-Refused c = said-policy _ _ _ _ (check-refused _ _ (sym c.in-Refused.is ∙ c.check.ensures))
+returns-in-Refused c = said-policy _ _ _ _ (check-refused _ _ (c.in-Refused.ensures))
 
 pub returns-in-NoRule : goal.returns-in-NoRule
 returns-in-NoRule c =

@@ -12,25 +12,27 @@ use Rattle.policy.proofs.best.Goals as goal
 pub returns-in-Refused : goal.returns-in-Refused
 unfolding best_answer best_refusal
 returns-in-Refused c =
-    rw (check-refused _ _ (sym c.in-Refused.is ∙ c.check.ensures))
-
--- the policy is not refused
-passed : (c : goal.In_default) → policy_refusal c.args.policy.now ≡ none
-passed c = check-passed _ _ (sym c.in_default.is ∙ c.check.ensures)
+    rw (check-refused _ _ c.in-Refused.ensures)
 
 pub returns-then-key-ne-KEY_SIZE : goal.returns-then-key-ne-KEY_SIZE
 unfolding best_answer best_refusal key_refusal
-returns-then-key-ne-KEY_SIZE c = rw (c.at_no_place.ensures, passed c, ne_eqb _ _ c.if-key-ne-KEY_SIZE.true)
+returns-then-key-ne-KEY_SIZE c =
+    let passed : policy_refusal c.args.policy.now ≡ none = check-passed _ _ (c.in_default.ensures) in
+    rw (c.at_no_place.ensures, passed, ne_eqb _ _ c.if-key-ne-KEY_SIZE.true)
 
 pub best_rule-requires : goal.best_rule-requires
-best_rule-requires c = (passed-few _ (passed c), c.if-key-ne-KEY_SIZE.false)
+best_rule-requires c =
+    let passed : policy_refusal c.args.policy.now ≡ none = check-passed _ _ (c.in_default.ensures) in
+    (passed-few _ (passed), c.if-key-ne-KEY_SIZE.false)
 
 pub returns-in-NoRule : goal.returns-in-NoRule
 unfolding best_answer best_refusal key_refusal
 returns-in-NoRule c =
-    rw (passed c, eq-eqb _ _ c.if-key-ne-KEY_SIZE.false, sym c.best_rule.ensures ∙ c.in-NoRule.is)
+    let passed : policy_refusal c.args.policy.now ≡ none = check-passed _ _ (c.in_default.ensures) in
+    rw (passed, eq-eqb _ _ c.if-key-ne-KEY_SIZE.false, sym c.in-NoRule.ensures)
 
 pub returns-in-Rule : goal.returns-in-Rule
 unfolding best_answer best_refusal key_refusal
 returns-in-Rule c =
-    rw (passed c, eq-eqb _ _ c.if-key-ne-KEY_SIZE.false, sym c.best_rule.ensures ∙ c.in-Rule.is)
+    let passed : policy_refusal c.args.policy.now ≡ none = check-passed _ _ (c.in_default.ensures) in
+    rw (passed, eq-eqb _ _ c.if-key-ne-KEY_SIZE.false, sym c.in-Rule.ensures)

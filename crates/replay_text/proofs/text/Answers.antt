@@ -8,7 +8,7 @@ use Rattle.replay_text.proofs.text.Goals as goal
 
 pub put_run-requires : goal.put_run-requires
 put_run-requires c =
-    let t = files-taken _ _ _ (sym c.file_answer.ensures ∙ c.in-Count.is) in
+    let t = files-taken _ _ _ (sym c.in-Count.ensures) in
     (t.some-there, t.few-there, t.trace-short, search rules)
 
 pub returns-in-Refused : goal.returns-in-Refused

@@ -12,11 +12,11 @@ use Rattle.show.proofs.show.Goals as goal
 
 -- the slot is one of the table, the rule one of the policy
 slot-there : (c : goal.In-FromTable-2) → c.in-FromTable.i < slot_count key_size c.args.table.now
-slot-there c = table_below _ _ _ _ (sym c.show_answer.ensures ∙ c.in-FromTable.is)
+slot-there c = table_below _ _ _ _ (sym c.in-FromTable.ensures)
 
 rule-there : (c : goal.In-FromPolicy-2)
     → c.in-FromPolicy.number < rule_count key_size c.args.policy.now
-rule-there c = policy-below _ _ _ _ (sym c.show_answer.ensures ∙ c.in-FromPolicy.is)
+rule-there c = policy-below _ _ _ _ (sym c.in-FromPolicy.ensures)
 
 pub slice_bounds-result-end-in-FromTable : goal.slice_bounds-result-end-in-FromTable
 slice_bounds-result-end-in-FromTable c = omega (arith, slot-there c)
@@ -26,18 +26,18 @@ slice_bounds-result-end-in-FromPolicy c = omega (arith, rule-there c)
 
 pub returns-in-Refused : goal.returns-in-Refused
 unfolding shown_part
-returns-in-Refused c = rw (sym c.show_answer.ensures ∙ c.in-Refused.is)
+returns-in-Refused c = rw (sym c.in-Refused.ensures)
 
 pub returns-in-NoRule : goal.returns-in-NoRule
 unfolding shown_part
-returns-in-NoRule c = rw (sym c.show_answer.ensures ∙ c.in-NoRule.is)
+returns-in-NoRule c = rw (sym c.in-NoRule.ensures)
 
 pub returns-in-FromTable : goal.returns-in-FromTable
 unfolding shown_part
 returns-in-FromTable c =
-    rw (sym c.show_answer.ensures ∙ c.in-FromTable.is, add-sub_cancel_left)
+    rw (sym c.in-FromTable.ensures, add-sub_cancel_left)
 
 pub returns-in-FromPolicy : goal.returns-in-FromPolicy
 unfolding shown_part
 returns-in-FromPolicy c =
-    rw (sym c.show_answer.ensures ∙ c.in-FromPolicy.is, add-sub_cancel_left)
+    rw (sym c.in-FromPolicy.ensures, add-sub_cancel_left)

@@ -30,7 +30,7 @@ fine c = verdict-fine _ c.check_lent.ensures c.in_default.is
 -- the slot that takes the key
 there : (c : goal.In-At-2) → let a = c.args in
     first_for positions (slots key_size a.table.now) a.key.now ≡ some c.in-At.i
-there c = found_at _ _ (sym c.in-At.is ∙ c.first_slot_for.ensures)
+there c = found_at _ _ (c.in-At.ensures)
 
 pub first_slot_for-requires : goal.first_slot_for-requires
 first_slot_for-requires c = (parts-fine _ _ _ (verdict-fine _ c.check_lent.ensures c.in_default.is)).long
@@ -44,7 +44,7 @@ returns-in-At c = says_slot _ _ _ (fine c) _ (there c)
 -- no slot takes it
 missed : (c : goal.In_default-first_slot_for) → let a = c.args in
     first_for positions (slots key_size a.table.now) a.key.now ≡ none
-missed c = found_nowhere _ (sym c.in_default-first_slot_for.is ∙ c.first_slot_for.ensures)
+missed c = found_nowhere _ (c.in_default-first_slot_for.ensures)
 
 pub best_rule-requires : goal.best_rule-requires
 best_rule-requires c =
@@ -53,9 +53,9 @@ best_rule-requires c =
 
 pub returns-in-NoRule : goal.returns-in-NoRule
 returns-in-NoRule c =
-    says_none _ _ _ (fine c) (missed c) (found_none _ _ (sym c.best_rule.ensures ∙ c.in-NoRule.is))
+    says_none _ _ _ (fine c) (missed c) (found_none _ _ (sym c.in-NoRule.ensures))
 
 pub returns-in-Rule : goal.returns-in-Rule
 returns-in-Rule c =
     says-rule _ _ _ (fine c) (missed c) _
-    (found-rule _ _ _ _ (sym c.best_rule.ensures ∙ c.in-Rule.is))
+    (found-rule _ _ _ _ (sym c.in-Rule.ensures))

@@ -5,10 +5,10 @@ use Rattle.policy.proofs.RecordShown.{record-shown, shown-below}
 use Rattle.c_answers.proofs.part.record_for_c.Goals as goal
 
 pub overflow_mul-result : goal.overflow_mul-result
-overflow_mul-result c = omega (arith, shown-below _ _ (record-shown _ _ (sym c.in-Fine.is ∙ c.record_answer.ensures)))
+overflow_mul-result c = omega (arith, shown-below _ _ (record-shown _ _ (c.in-Fine.ensures)))
 
 pub returns-in-Refused : goal.returns-in-Refused
-returns-in-Refused c = rw (sym c.record_answer.ensures ∙ c.in-Refused.is)
+returns-in-Refused c = rw (sym c.in-Refused.ensures)
 
 pub returns-in-Fine : goal.returns-in-Fine
-returns-in-Fine c = rw (sym c.record_answer.ensures ∙ c.in-Fine.is)
+returns-in-Fine c = rw (sym c.in-Fine.ensures)

@@ -16,9 +16,9 @@ pub returns-then-not-slots_fit : goal.returns-then-not-slots_fit
 returns-then-not-slots_fit c =
     c.refused-then-not-slots_fit.ensures
     ∙ sym (ap verdict_of (bad-end _ _ _ c.check.ensures c.in_default.is c.if-key-ne-KEY_SIZE.false c.slots_fit.ensures
-    (not-true c.if-not-slots_fit.true)))
+    c.if-not-slots_fit.true))
 
 pub returns : goal.returns
 returns c =
     sym (ap verdict_of (none-bad _ _ _ c.check.ensures c.in_default.is c.if-key-ne-KEY_SIZE.false c.slots_fit.ensures
-    (not-false c.if-not-slots_fit.false)))
+    c.if-not-slots_fit.false))

@@ -10,20 +10,16 @@ use Rattle.policy.proofs.record.record_answer.Goals as goal
 
 pub returns-in-Refused : goal.returns-in-Refused
 unfolding record_answer record_refusal
-returns-in-Refused c = rw (check-refused _ _ (sym c.in-Refused.is ∙ c.check.ensures))
-
--- the policy is not refused, and has that many rules
-counted : (c : goal.In-Count-2) → Count c.in-Count.count ≡ check_answer c.args.policy.now
-counted c = sym c.in-Count.is ∙ c.check.ensures
+returns-in-Refused c = rw (check-refused _ _ c.in-Refused.ensures)
 
 pub returns-then-number-count : goal.returns-then-number-count
 unfolding record_answer record_refusal
 returns-then-number-count c =
-    let e = counted c in
+    let e : Count c.in-Count.count ≡ check_answer c.args.policy.now = c.in-Count.ensures in
     rw (check-passed _ _ e, lt-ltb _ _ (rw (check-count _ _ e) at c.if-number-count.true))
 
 pub returns-else-number-count : goal.returns-else-number-count
 unfolding record_answer record_refusal
 returns-else-number-count c =
-    let e = counted c in
+    let e : Count c.in-Count.count ≡ check_answer c.args.policy.now = c.in-Count.ensures in
     rw (c.at_no_place.ensures, check-passed _ _ e, le-ltb _ _ (rw (check-count _ _ e) at c.if-number-count.false))

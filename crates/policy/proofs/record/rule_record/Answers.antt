@@ -10,27 +10,19 @@ use Rattle.policy.specs.RecordAnswers.{record_refusal, shown_record}
 use Rattle.policy.proofs.RecordShown.{record-refused, record-shown, shown-below}
 use Rattle.policy.proofs.record.rule_record.Goals as goal
 
--- the record is shown
-shown : (c : goal.In-Fine) → let a = c.args in record_refusal a.policy.now a.number ≡ none
-shown c = record-shown _ _ (sym c.in-Fine.is ∙ c.record_answer.ensures)
-
--- so its number is below the rule count
-below : (c : goal.In-Fine) → let a = c.args in a.number < rule_count key_size a.policy.now
-below c = shown-below _ _ (shown c)
-
 pub overflow_mul-at : goal.overflow_mul-at
-overflow_mul-at c = omega (arith, below c)
+overflow_mul-at c = omega (arith, shown-below _ _ (record-shown _ _ c.in-Fine.ensures))
 
 pub overflow_add-result : goal.overflow_add-result
-overflow_add-result c = omega (arith, below c)
+overflow_add-result c = omega (arith, shown-below _ _ (record-shown _ _ c.in-Fine.ensures))
 
 pub slice_bounds-result-end-in-Fine : goal.slice_bounds-result-end-in-Fine
-slice_bounds-result-end-in-Fine c = omega (arith, below c)
+slice_bounds-result-end-in-Fine c = omega (arith, shown-below _ _ (record-shown _ _ c.in-Fine.ensures))
 
 pub returns-in-Refused : goal.returns-in-Refused
 unfolding shown_record
-returns-in-Refused c = rw (record-refused _ _ _ (sym c.in-Refused.is ∙ c.record_answer.ensures))
+returns-in-Refused c = rw (record-refused _ _ _ c.in-Refused.ensures)
 
 pub returns-in-Fine : goal.returns-in-Fine
 unfolding shown_record
-returns-in-Fine c = rw (shown c, add-sub_cancel_left)
+returns-in-Fine c = rw (record-shown _ _ c.in-Fine.ensures, add-sub_cancel_left)

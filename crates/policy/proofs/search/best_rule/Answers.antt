@@ -7,10 +7,12 @@ use native.Mathlib.Omega.{arith}
 use Rattle.model.proofs.Cases.{not-true, not-false}
 use Rattle.model.proofs.BestLoop.{best_none, best-passed, best-first, best-taken, best-kept, best-done}
 use Rattle.ternary.specs.Sizes.{key_size}
-use Rattle.records.specs.Rules.{rules}
+use Rattle.records.specs.Rules.{rules as rules_of}
 use Rattle.records.proofs.RuleLaws.{rule-count}
 use Rattle.policy.specs.Best.{best_found}
 use Rattle.policy.proofs.search.best_rule.Goals as goal
+use Rattle.policy.proofs.search.best_rule.Goals.{then-rule_matches+then-not-found, then-rule_matches+else-not-found+then-priority-its}
+use Rattle.policy.proofs.search.best_rule.Goals.{then-rule_matches+else-not-found+else-priority-its, else-rule_matches}
 
 pub loop-i-init : goal.loop-i-init
 loop-i-init c = (search rules, best_none _ _ _ _ _)
@@ -20,15 +22,21 @@ loop-i-preserved c =
     let m = sym c.rule_matches.ensures in
     let is = c.loop-i.invariant.1 in (
       search rules,
-      ⊎_elim
-          (λ w. rw (w.3, w.4, w.5, w.1.ensures) (best-first _ _ _ is (not-true w.2.taken) (m ∙ w.0.taken)))
-          (⊎_elim
-          (λ w. rw (w.4, w.5, w.6, w.1.ensures)
-          (best-taken _ _ _ is (not-false w.2.left) (m ∙ w.0.taken) (rw w.1.ensures at w.3.taken)))
-          (⊎_elim
-          (λ w. rw (w.4, w.5, w.6) (best-kept _ _ _ is (not-false w.2.left) (m ∙ w.0.taken) (rw w.1.ensures at w.3.left)))
-          (λ w. rw (w.1, w.2, w.3) (best-passed _ _ _ is (m ∙ w.0.left)))))
-          c.if-rule_matches.branch,
+      elim c.if-rule_matches.branch [
+        then-rule_matches+then-not-found w ↦
+            rw (w.found-is, w.number-is, w.priority-is, w.rule_priority-its.ensures)
+            (best-first _ _ _ is w.if-not-found.true (m ∙ w.if-rule_matches.true))
+        | then-rule_matches+else-not-found+then-priority-its w ↦
+            rw (w.found-is, w.number-is, w.priority-is, w.rule_priority-its.ensures)
+            (best-taken _ _ _ is w.if-not-found.false (m ∙ w.if-rule_matches.true)
+            (rw w.rule_priority-its.ensures at w.if-priority-its.true))
+        | then-rule_matches+else-not-found+else-priority-its w ↦
+            rw (w.found-is, w.number-is, w.priority-is)
+            (best-kept _ _ _ is w.if-not-found.false (m ∙ w.if-rule_matches.true)
+            (rw w.rule_priority-its.ensures at w.if-priority-its.false))
+        | else-rule_matches w ↦
+            rw (w.found-is, w.number-is, w.priority-is) (best-passed _ _ _ is (m ∙ w.if-rule_matches.false))
+      ],
     )
 
 pub overflow_cast-result : goal.overflow_cast-result

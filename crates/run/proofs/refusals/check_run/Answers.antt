@@ -11,7 +11,7 @@ use Rattle.run.proofs.refusals.check_run.Goals as goal
 
 -- the policy is not refused, nor is the trace, nor are the two ends
 fine-policy : (c : goal.In_default) → policy_refusal c.args.policy.now ≡ none
-fine-policy c = check-passed _ _ (sym c.in_default.is ∙ c.check.ensures)
+fine-policy c = check-passed _ _ (c.in_default.ensures)
 
 fine-trace : (c : goal.In_default-check_trace)
     → trace_refusal c.args.trace.now ≡ none
@@ -24,7 +24,7 @@ fine-ends c = verdict-fine _ c.check_ends.ensures c.in_default-check_ends.is
 
 pub returns-in-Refused : goal.returns-in-Refused
 unfolding run_refusal
-returns-in-Refused c = rw (check-refused _ _ (sym c.in-Refused.is ∙ c.check.ensures))
+returns-in-Refused c = rw (check-refused _ _ (c.in-Refused.ensures))
 
 pub returns-in-Refused-check_trace : goal.returns-in-Refused-check_trace
 unfolding run_refusal
