@@ -1,14 +1,13 @@
 -- `isolate::rounds::isolate_rule` meets its contract: a turn of the rounds is a round of the model. Assumes nothing.
 use borrow.Author.Rules.{rules}
 use mathlib.Core.Path.{◌≡◌, ◌∙◌}
-use mathlib.Core.Logic.{⊎_elim}
 use Prim.Native.Nat.{◌-◌, ◌/◌}
 use native.Mathlib.Omega.{arith}
 use lib.ListN.{length, take}
 use Rattle.model.specs.Isolate.{separates}
 use Rattle.ternary.specs.Sizes.{key_size}
 use Rattle.records.specs.Layout.{most_rules}
-use Rattle.records.specs.Rules.{rule_count, rules}
+use Rattle.records.specs.Rules.{rule_count, rules as rules_of}
 use Rattle.records.proofs.RuleLaws.{rule-count}
 use Rattle.lists.specs.Numbers.{Under}
 use Rattle.isolate.specs.Columns.{Marks}
@@ -16,19 +15,12 @@ use Rattle.isolate.proofs.AtHand.{at_first, at_next, weight_is}
 use Rattle.isolate.proofs.RoundsLaws.{scan-none, scan-taken, scan-kept, scan-chosen}
 use Rattle.isolate.proofs.RoundsLaws.{going_start, going-under, going-room, going-stop, going_less, going_next}
 use Rattle.isolate.proofs.rounds.isolate_rule.Goals as goal
-
--- the standing are rules of the policy
-under : (r : goal.At-rounds)
-    → Under (rule_count key_size r.args.policy.now) r.rounds.standing.items r.rounds.standing.count
-under r = going-under _ _ _ _ _ _ _ _ _ _ r.rounds.invariant.1 r.rounds.invariant.2 _ (rule-count key_size _)
-
-long : (s : goal.Start) → length s.args.deps.items ≡ most_rules
-long s = search rules
+use Rattle.isolate.proofs.rounds.isolate_rule.Goals.{then-p-eq0, else-p-eq0, then-most-n, else-most-n}
 
 pub rounds-init : goal.rounds-init
 rounds-init c =
-    (
-      omega (arith, long c, c.requires.2.few),
+    let long : length c.args.deps.items ≡ most_rules = search rules in (
+      omega (arith, long, c.requires.2.few),
       c.requires.2.few,
       going_start _ _ _ _ _ _ _ _ c.requires.2 c.requires.1 c.rule_pattern-pattern.ensures,
     )
@@ -43,45 +35,73 @@ loop-p-init c = (scan-none _ _ (search rules), at_first _ _ _ _)
 
 pub column_of-column-requires : goal.column_of-column-requires
 column_of-column-requires c =
-    (c.requires.0, omega arith, under c)
-
--- the column is that of the position's byte
-column : (c : goal.Joined-p-eq0)
-    → let a = c.args in
-    Marks (separates (rules key_size a.policy.now) a.key a.number) (c.loop-p.p / 8)
-    (take c.rounds.standing.count c.rounds.standing.items) c.if-p-eq0.bytes c.if-p-eq0.count
-column c =
-    ⊎_elim
-    (λ w. rw (w.3, w.4) w.1.ensures)
-    (λ w. rw (w.1, w.2) (c.loop-p.invariant.1.inside w.0.left))
-    c.if-p-eq0.branch
+    -- the standing are rules of the policy
+    let under : Under (rule_count key_size c.args.policy.now) c.rounds.standing.items c.rounds.standing.count =
+        going-under _ _ _ _ _ _ _ _ _ _ c.rounds.invariant.1 c.rounds.invariant.2 _ (rule-count key_size _)
+    in
+    (c.requires.0, omega arith, under)
 
 pub slice_bounds-marked-end : goal.slice_bounds-marked-end
-slice_bounds-marked-end c = let h = (column c).long in search rules
+slice_bounds-marked-end c =
+    let a = c.args in
+    -- the column is that of the position's byte
+    let column : Marks (separates (rules_of key_size a.policy.now) a.key a.number) (c.loop-p.p / 8)
+        (take c.rounds.standing.count c.rounds.standing.items) c.if-p-eq0.bytes c.if-p-eq0.count =
+        elim c.if-p-eq0.branch [
+          then-p-eq0 w ↦ rw (w.bytes-is, w.count-is) w.column_of-column.ensures
+          | else-p-eq0 w ↦ rw (w.bytes-is, w.count-is) (c.loop-p.invariant.1.inside w.if-p-eq0.false)
+        ]
+    in
+    let h = column.long in search rules
 
 pub marked-n-requires : goal.marked-n-requires
-marked-n-requires c = ((column c).few, omega arith)
+marked-n-requires c =
+    let a = c.args in
+    -- the column is that of the position's byte
+    let column : Marks (separates (rules_of key_size a.policy.now) a.key a.number) (c.loop-p.p / 8)
+        (take c.rounds.standing.count c.rounds.standing.items) c.if-p-eq0.bytes c.if-p-eq0.count =
+        elim c.if-p-eq0.branch [
+          then-p-eq0 w ↦ rw (w.bytes-is, w.count-is) w.column_of-column.ensures
+          | else-p-eq0 w ↦ rw (w.bytes-is, w.count-is) (c.loop-p.invariant.1.inside w.if-p-eq0.false)
+        ]
+    in
+    (column.few, omega arith)
 
 pub loop-p-preserved : goal.loop-p-preserved
 loop-p-preserved c =
-    let weight = weight_is _ _ _ _ _ (column c) _ c.marked-n.ensures in
-    ⊎_elim
-    (λ w. rw (w.1, w.2) (
-      scan-taken _ _ _ _ _ _ c.loop-p.invariant.0 (omega arith) weight w.0.taken,
-      at_next _ _ _ _ _ (column c),
-    ))
-    (λ w. rw (w.1, w.2) (
-      scan-kept _ _ _ _ _ _ c.loop-p.invariant.0 (omega arith) weight w.0.left,
-      at_next _ _ _ _ _ (column c),
-    ))
-    c.if-most-n.branch
+    let a = c.args in
+    -- the column is that of the position's byte
+    let column : Marks (separates (rules_of key_size a.policy.now) a.key a.number) (c.loop-p.p / 8)
+        (take c.rounds.standing.count c.rounds.standing.items) c.if-p-eq0.bytes c.if-p-eq0.count =
+        elim c.if-p-eq0.branch [
+          then-p-eq0 w ↦ rw (w.bytes-is, w.count-is) w.column_of-column.ensures
+          | else-p-eq0 w ↦ rw (w.bytes-is, w.count-is) (c.loop-p.invariant.1.inside w.if-p-eq0.false)
+        ]
+    in
+    let weight = weight_is _ _ _ _ _ column _ c.marked-n.ensures in
+    elim c.if-most-n.branch [
+      then-most-n w ↦
+          rw (w.best-is, w.most-is) (
+            scan-taken _ _ _ _ _ _ c.loop-p.invariant.0 (omega arith) weight w.if-most-n.true,
+            at_next _ _ _ _ _ column,
+          )
+      | else-most-n w ↦
+          rw (w.best-is, w.most-is) (
+            scan-kept _ _ _ _ _ _ c.loop-p.invariant.0 (omega arith) weight w.if-most-n.false,
+            at_next _ _ _ _ _ column,
+          )
+    ]
 
 pub fix_bit-pattern-requires : goal.fix_bit-pattern-requires
 fix_bit-pattern-requires c = c.loop-p.invariant.0.within
 
 pub left-standing-requires : goal.left-standing-requires
 left-standing-requires c =
-    (c.requires.0, c.loop-p.invariant.0.within, under c)
+    -- the standing are rules of the policy
+    let under : Under (rule_count key_size c.args.policy.now) c.rounds.standing.items c.rounds.standing.count =
+        going-under _ _ _ _ _ _ _ _ _ _ c.rounds.invariant.1 c.rounds.invariant.2 _ (rule-count key_size _)
+    in
+    (c.requires.0, c.loop-p.invariant.0.within, under)
 
 pub overflow_add-fixed : goal.overflow_add-fixed
 overflow_add-fixed c =

@@ -1,5 +1,4 @@
 -- `isolate::rounds::isolate_rule` meets its contract: a turn of the rounds is a round of the model. Assumes nothing.
-use borrow.Author.Rules.{rules}
 use Prim.Native.Nat.{◌≤◌, ◌-◌}
 use lib.ListN.{length, take}
 use Rattle.model.specs.Below.{keep}

@@ -1,21 +1,20 @@
 -- `isolate::separation::column_of` meets its contract: the bytes have the bits of what is separated of the first i items. Assumes nothing.
 use borrow.Author.Rules.{rules}
 use mathlib.Core.Path.{◌≡◌}
-use mathlib.Core.Logic.{⊎_elim}
 use Prim.Native.Nat.{◌<◌, ◌-◌}
 use native.Mathlib.Omega.{arith}
 use lib.ListN.{length}
 use Rattle.records.specs.Layout.{most_rules}
-use Rattle.records.specs.Rules.{rules}
+use Rattle.records.specs.Rules.{rules as rules_of}
 use Rattle.isolate.proofs.SeparateLaws.{separates-here}
 use Rattle.isolate.proofs.ColumnLaws.{marks-none, marks-more, marks-same}
 use Rattle.isolate.proofs.separation.column_of.Goals as goal
-
-long : (s : goal.Start) → length s.args.standing.items ≡ most_rules
-long s = search rules
+use Rattle.isolate.proofs.separation.column_of.Goals.{then-x-ne0, else-x-ne0}
 
 pub loop-i-init : goal.loop-i-init
-loop-i-init c = (search rules, omega (arith, long c), search rules, marks-none _ _ _ (search rules))
+loop-i-init c =
+    let long : length c.args.standing.items ≡ most_rules = search rules in
+    (search rules, omega (arith, long), search rules, marks-none _ _ _ (search rules))
 
 pub separating-x-requires : goal.separating-x-requires
 separating-x-requires c =
@@ -23,23 +22,26 @@ separating-x-requires c =
 
 pub loop-i-preserved : goal.loop-i-preserved
 loop-i-preserved c =
-    let below : c.loop-i.i < length c.args.standing.items = omega (arith, long c) in
+    let long : length c.args.standing.items ≡ most_rules = search rules in
+    let below : c.loop-i.i < length c.args.standing.items = omega (arith, long) in
     let is = c.loop-i.invariant.3 in
     let r = c.separating-x.ensures in
-    ⊎_elim
-    (λ w. rw (w.1, w.2) (
-      omega arith,
-      omega arith,
-      omega arith,
-      marks-more _ _ _ _ below _ _ is _ (separates-here _ _ _ _ _ _ r) (omega arith),
-    ))
-    (λ w. rw (w.1, w.2) (
-      omega arith,
-      omega arith,
-      omega arith,
-      marks-same _ _ _ _ below _ _ is _ (separates-here _ _ _ _ _ _ r) w.0.left,
-    ))
-    c.if-x-ne0.branch
+    elim c.if-x-ne0.branch [
+      then-x-ne0 w ↦
+          rw (w.bytes-is, w.count-is) (
+            omega arith,
+            omega arith,
+            omega arith,
+            marks-more _ _ _ _ below _ _ is _ (separates-here _ _ _ _ _ _ r) (omega arith),
+          )
+      | else-x-ne0 w ↦
+          rw (w.bytes-is, w.count-is) (
+            omega arith,
+            omega arith,
+            omega arith,
+            marks-same _ _ _ _ below _ _ is _ (separates-here _ _ _ _ _ _ r) w.if-x-ne0.false,
+          )
+    ]
 
 pub returns : goal.returns
 returns c =

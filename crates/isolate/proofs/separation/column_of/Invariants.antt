@@ -1,5 +1,4 @@
 -- `isolate::separation::column_of` meets its contract: the bytes have the bits of what is separated of the first i items. Assumes nothing.
-use borrow.Author.Rules.{rules}
 use Prim.Native.Nat.{◌≤◌, ◌-◌}
 use lib.ListN.{take}
 use Rattle.model.specs.Isolate.{separates}

@@ -1,5 +1,4 @@
 -- `isolate::separation::left` meets its contract: the items are those of the first i that are not separated. Assumes nothing.
-use borrow.Author.Rules.{rules}
 use mathlib.Core.Path.{◌≡◌}
 use mathlib.Core.Bool.{not}
 use Prim.Native.Nat.{◌≤◌, ◌-◌}
