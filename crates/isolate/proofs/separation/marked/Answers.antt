@@ -1,6 +1,5 @@
 -- `isolate::separation::marked` meets its contract: n of the first i bytes have the bit. Assumes nothing.
 use mathlib.Core.Path.{◌≡◌}
-use mathlib.Core.Logic.{⊎_elim}
 use Prim.Native.Nat.{◌<◌, ◌-◌}
 use native.Mathlib.Omega.{arith}
 use lib.ListN.{length}
@@ -10,6 +9,7 @@ use Rattle.isolate.specs.Columns.{bit_set}
 use Rattle.isolate.proofs.StandingLaws.{count_kept, count-passed}
 use Rattle.isolate.proofs.SeparateLaws.{bit-taken}
 use Rattle.isolate.proofs.separation.marked.Goals as goal
+use Rattle.isolate.proofs.separation.marked.Goals.{then-bytes-i-eq1, else-bytes-i-eq1}
 
 pub loop-i-init : goal.loop-i-init
 unfolding keep
@@ -19,20 +19,22 @@ pub loop-i-preserved : goal.loop-i-preserved
 loop-i-preserved c =
     let a = c.args in
     let below : c.loop-i.i < length a.bytes.now = omega (arith, c.loop-i.invariant.1) in
-    ⊎_elim
-    (λ w. rw w.1 (
-      omega arith,
-      omega arith,
-      omega arith,
-      count_kept (bit_set a.q) a.bytes.now _ below _ c.loop-i.invariant.3 _ (bit-taken a.q _) (eq-eqb _ _ w.0.taken),
-    ))
-    (λ w. rw w.1 (
-      omega arith,
-      omega arith,
-      omega arith,
-      count-passed (bit_set a.q) a.bytes.now _ below _ c.loop-i.invariant.3 _ (bit-taken a.q _) (ne_eqb _ _ w.0.left),
-    ))
-    c.if-bytes-i-eq1.branch
+    elim c.if-bytes-i-eq1.branch [
+      then-bytes-i-eq1 w ↦
+          rw w.n-is (
+            omega arith,
+            omega arith,
+            omega arith,
+            count_kept (bit_set a.q) a.bytes.now _ below _ c.loop-i.invariant.3 _ (bit-taken a.q _) (eq-eqb _ _ w.if-bytes-i-eq1.true),
+          )
+      | else-bytes-i-eq1 w ↦
+          rw w.n-is (
+            omega arith,
+            omega arith,
+            omega arith,
+            count-passed (bit_set a.q) a.bytes.now _ below _ c.loop-i.invariant.3 _ (bit-taken a.q _) (ne_eqb _ _ w.if-bytes-i-eq1.false),
+          )
+    ]
 
 pub returns : goal.returns
 returns c =
