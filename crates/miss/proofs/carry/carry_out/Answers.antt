@@ -14,7 +14,7 @@ returns-then-out-lt-WRITE_SIZE c =
 
 pub put_new_entry-requires : goal.put_new_entry-requires
 put_new_entry-requires c =
-    (c.requires, sym c.gives_write.ensures ∙ not-false c.if-not-gives_write.false)
+    (c.requires, sym c.gives_write.ensures ∙ c.if-not-gives_write.false)
 
 pub returns : goal.returns
 returns c =

@@ -8,14 +8,14 @@ use Rattle.run.proofs.refusals.check_ends.Goals as goal
 
 pub returns-then-not-slots_fit : goal.returns-then-not-slots_fit
 unfolding ends_refusal slots_refusal
-returns-then-not-slots_fit c = rw (sym c.slots_fit.ensures ∙ not-true c.if-not-slots_fit.true) c.refused.ensures
+returns-then-not-slots_fit c = rw (sym c.slots_fit.ensures ∙ c.if-not-slots_fit.true) c.refused.ensures
 
 pub returns-then-not-slots_fit-2 : goal.returns-then-not-slots_fit-2
 unfolding ends_refusal slots_refusal
 returns-then-not-slots_fit-2 c =
     rw (
-      sym c.slots_fit.ensures ∙ not-false c.if-not-slots_fit.false,
-      sym c.slots_fit-2.ensures ∙ not-true c.if-not-slots_fit-2.true,
+      sym c.slots_fit.ensures ∙ c.if-not-slots_fit.false,
+      sym c.slots_fit-2.ensures ∙ c.if-not-slots_fit-2.true,
     )
     c.refused-then-not-slots_fit-2.ensures
 
@@ -24,8 +24,8 @@ pub returns : goal.returns
 unfolding ends_refusal slots_refusal
 returns c =
     rw (
-      sym c.slots_fit.ensures ∙ not-false c.if-not-slots_fit.false,
-      sym c.slots_fit-2.ensures ∙ not-false c.if-not-slots_fit-2.false,
+      sym c.slots_fit.ensures ∙ c.if-not-slots_fit.false,
+      sym c.slots_fit-2.ensures ∙ c.if-not-slots_fit-2.false,
       eq-eqb _ _ c.if-table-keeper.false,
     )
 
@@ -33,8 +33,8 @@ pub returns-then-table-keeper : goal.returns-then-table-keeper
 unfolding ends_refusal slots_refusal
 returns-then-table-keeper c =
     rw (
-      sym c.slots_fit.ensures ∙ not-false c.if-not-slots_fit.false,
-      sym c.slots_fit-2.ensures ∙ not-false c.if-not-slots_fit-2.false,
+      sym c.slots_fit.ensures ∙ c.if-not-slots_fit.false,
+      sym c.slots_fit-2.ensures ∙ c.if-not-slots_fit-2.false,
       ne_eqb _ _ c.if-table-keeper.true,
     )
     c.refused-then-table-keeper.ensures

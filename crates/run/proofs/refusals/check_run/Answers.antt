@@ -45,7 +45,7 @@ returns-in-Refused-check_ends c =
 pub returns-then-not-totals_fit : goal.returns-then-not-totals_fit
 unfolding run_refusal
 returns-then-not-totals_fit c =
-    rw (fine-policy c, fine-trace c, fine-ends c, sym c.totals_fit.ensures ∙ not-true c.if-not-totals_fit.true)
+    rw (fine-policy c, fine-trace c, fine-ends c, sym c.totals_fit.ensures ∙ c.if-not-totals_fit.true)
     c.refused.ensures
 
 -- nothing is refused; it stands first, so that a test that refuses too little fails here
@@ -56,7 +56,7 @@ returns c =
       fine-policy c,
       fine-trace c,
       fine-ends c,
-      sym c.totals_fit.ensures ∙ not-false c.if-not-totals_fit.false,
+      sym c.totals_fit.ensures ∙ c.if-not-totals_fit.false,
       le-leb _ _ c.if-out_len-trace.false,
     )
 
@@ -67,7 +67,7 @@ returns-then-out_len-trace c =
       fine-policy c,
       fine-trace c,
       fine-ends c,
-      sym c.totals_fit.ensures ∙ not-false c.if-not-totals_fit.false,
+      sym c.totals_fit.ensures ∙ c.if-not-totals_fit.false,
       lt-leb _ _ c.if-out_len-trace.true,
     )
     c.refused-then-out_len-trace.ensures
