@@ -1,13 +1,13 @@
 -- `keeper::open_slots::open_slots` meets its contract: the open slots below i are listed. Assumes nothing.
 use borrow.Author.Rules.{rules}
-use mathlib.Core.Logic.{⊎_elim}
-use Prim.Native.Nat.{ℕ, ◌-◌}
+use Prim.Native.Nat.{ℕ}
 use native.Mathlib.Nat.{le_antisymm}
 use native.Mathlib.Omega.{arith}
 use lib.ListN.{length-replicate}
 use Rattle.records.specs.Layout.{most_rules}
 use Rattle.keeper.proofs.OpenLaws.{open_none, open-few, open-passed, open-taken, open_done}
 use Rattle.keeper.proofs.open_slots.open_slots.Goals as goal
+use Rattle.keeper.proofs.open_slots.open_slots.Goals.{then-is_open, else-is_open}
 
 pub loop-i-init : goal.loop-i-init
 loop-i-init c = (search rules, open_none _ _ (length-replicate {A = ℕ} most_rules 0))
@@ -24,12 +24,13 @@ overflow_add-count c = omega (arith, open-few _ c.loop-i.invariant.1)
 pub loop-i-preserved : goal.loop-i-preserved
 loop-i-preserved c =
     let is = c.loop-i.invariant.1 in
-    let e = c.is_open.ensures in (
+    let e = c.is_open.ensures in
+    (
       search rules,
-      ⊎_elim
-          (λ w. rw (w.1, w.2) (open-taken _ is e w.0.taken (omega (arith, open-few _ is))))
-          (λ w. rw (w.1, w.2) (open-passed _ is e w.0.left))
-          c.if-is_open.branch,
+      elim c.if-is_open.branch [
+        then-is_open w ↦ rw (w.items-is, w.count-is) (open-taken _ is e w.if-is_open.true (omega (arith, open-few _ is)))
+        | else-is_open w ↦ rw (w.items-is, w.count-is) (open-passed _ is e w.if-is_open.false)
+      ],
     )
 
 pub returns : goal.returns
