@@ -13,15 +13,21 @@ use Rattle.run.proofs.run.Goals as goal
 pub returns-in-Refused : goal.returns-in-Refused
 returns-in-Refused c = run-refused _ _ _ _ _ _ c.check_run.ensures c.in-Refused.is
 
--- the run is not refused
-fine : (c : goal.In_default) → let a = c.args in
-    run_refusal a.policy.now a.trace.now a.table.now a.keeper.now (length a.out.now) (as_totals a.totals) ≡ none
-fine c = verdict-fine _ c.check_run.ensures c.in_default.is
-
 pub all_packets-sums-requires : goal.all_packets-sums-requires
-all_packets-sums-requires c = run_fits _ _ _ _ _ _ (fine c)
+all_packets-sums-requires c =
+    let a = c.args in
+    -- the run is not refused
+    let fine : run_refusal a.policy.now a.trace.now a.table.now a.keeper.now (length a.out.now) (as_totals a.totals) ≡ none =
+        verdict-fine _ c.check_run.ensures c.in_default.is
+    in
+    run_fits _ _ _ _ _ _ fine
 
 pub returns : goal.returns
 returns c =
-    run_ran _ _ _ _ _ _ (fine c) c.all_packets-sums.ensures (search rules) (bytes_of _ c.type_inv.table)
+    let a = c.args in
+    -- the run is not refused
+    let fine : run_refusal a.policy.now a.trace.now a.table.now a.keeper.now (length a.out.now) (as_totals a.totals) ≡ none =
+        verdict-fine _ c.check_run.ensures c.in_default.is
+    in
+    run_ran _ _ _ _ _ _ fine c.all_packets-sums.ensures (search rules) (bytes_of _ c.type_inv.table)
     (search rules) (bytes_of _ c.type_inv.keeper)

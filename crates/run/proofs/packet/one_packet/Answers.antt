@@ -17,13 +17,6 @@ returns-in-Hit c =
     packet-hit c.requires (search rules) c.lookup.ensures c.in-Hit.is
     (search rules) (bytes_of _ c.type_inv.table) c.report.ensures
 
--- what is of neither other kind is no hit
-no_hit : (x : LookupAnswer) → (tag_of the_type x ≡ 0) ⊎ (tag_of the_type x ≡ 1) → (slot rule action : ℕ) → x ≡ Hit slot rule action → ◌≡◌ {A = ℕ} 0 1
-no_hit (Refused r) h slot rule action e = cc
-no_hit Miss h slot rule action e = cc
-no_hit (Hit s u a) h slot rule action e = absurd (⊎_elim (λ e. omega arith) (λ e. omega arith) h)
-
 pub returns : goal.returns
 returns c =
-    packet-missed c.requires (search rules) c.lookup.ensures (no_hit _ c.in-Hit.keys2)
-    c.missed.ensures
+    packet-missed c.requires (search rules) c.lookup.ensures (λ slot rule action e. absurd (c.in_default.not-Hit slot rule action e)) c.missed.ensures

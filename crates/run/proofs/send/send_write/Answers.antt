@@ -7,15 +7,14 @@ use Rattle.end_records.specs.MessageStructs.{as_write}
 use Rattle.run.proofs.SendLaws.{sent-refused, sent-taken}
 use Rattle.run.proofs.send.send_write.Goals as goal
 
-fits : (c : goal.After-write_bytes-message) → WriteFits key_size (as_write c.args.w)
-fits c = search rules
-
 pub returns-in-Fine : goal.returns-in-Fine
 returns-in-Fine c =
-    sent-taken c.requires (fits c) c.write_bytes-message.ensures (search rules) c.write.ensures c.in-Fine.is
+    let fits : WriteFits key_size (as_write c.args.w) = search rules in
+    sent-taken c.requires fits c.write_bytes-message.ensures (search rules) c.write.ensures c.in-Fine.is
     (search rules) (bytes_of _ c.type_inv.table) c.report.ensures
 
 pub returns-in_default : goal.returns-in_default
 returns-in_default c =
-    sent-refused c.requires (fits c) c.write_bytes-message.ensures (search rules) c.write.ensures
+    let fits : WriteFits key_size (as_write c.args.w) = search rules in
+    sent-refused c.requires fits c.write_bytes-message.ensures (search rules) c.write.ensures
     c.in_default.is
