@@ -24,11 +24,10 @@ overflow_add-count c = omega (arith, open-few _ c.loop-i.invariant.1)
 pub loop-i-preserved : goal.loop-i-preserved
 loop-i-preserved c =
     let is = c.loop-i.invariant.1 in
-    let e = c.is_open.ensures in
-    (
+    let e = c.is_open.ensures in (
       search rules,
       elim c.if-is_open.branch [
-        then-is_open w ↦ rw (w.items-is, w.count-is) (open-taken _ is e w.if-is_open.true (omega (arith, open-few _ is)))
+        | then-is_open w ↦ rw (w.items-is, w.count-is) (open-taken _ is e w.if-is_open.true (omega (arith, open-few _ is)))
         | else-is_open w ↦ rw (w.items-is, w.count-is) (open-passed _ is e w.if-is_open.false)
       ],
     )
