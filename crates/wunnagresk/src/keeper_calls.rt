@@ -4,8 +4,7 @@ ghost use Rattle.wunnagresk.specs.KeeperCalls.{MissCall, ReportCall, OpenCall};
 use c_answers::structs::{WgCount, WgDone, WgOutcome};
 
 // A miss arrives; where a write is given it goes to the start of `out`.
-#[unsafe(no_mangle)]
-pub extern "C" fn wg_miss(policy: &[u8], key: &[u8], keeper: &mut [u8], out: &mut [u8]) -> WgOutcome
+pub fn wg_miss(policy: &[u8], key: &[u8], keeper: &mut [u8], out: &mut [u8]) -> WgOutcome
     ensures { MissCall policy.now key.now keeper.old out.old result
         keeper.new out.new }
 {
@@ -13,16 +12,14 @@ pub extern "C" fn wg_miss(policy: &[u8], key: &[u8], keeper: &mut [u8], out: &mu
 }
 
 // A report arrives.
-#[unsafe(no_mangle)]
-pub extern "C" fn wg_report(keeper: &mut [u8], message: &[u8]) -> WgDone
+pub fn wg_report(keeper: &mut [u8], message: &[u8]) -> WgDone
     ensures { ReportCall keeper.old message.now result keeper.new }
 {
     c_answers::done::done_for_c(keeper::report(keeper, message))
 }
 
 // Writes the numbers of the open slots to the start of `out`, two bytes each.
-#[unsafe(no_mangle)]
-pub extern "C" fn wg_open(keeper: &[u8], out: &mut [u8]) -> WgCount
+pub fn wg_open(keeper: &[u8], out: &mut [u8]) -> WgCount
     ensures { OpenCall keeper.now out.old result out.new }
 {
     c_answers::count::count_for_c(keeper::open_list(keeper, out))

@@ -5,8 +5,7 @@ use c_answers::structs::WgCount;
 use totals::Totals;
 
 // Runs a trace, and advances the totals in place; an outcome of 12 bytes for each packet goes to the start of `out`.
-#[unsafe(no_mangle)]
-pub extern "C" fn wg_run(
+pub fn wg_run(
     policy: &[u8],
     trace: &[u8],
     table: &mut [u8],

@@ -1,0 +1,8 @@
+// The C library: the calls of `wunnagresk` under their C names, with their clauses. A slice is a pointer and a count. C callers link it as
+// libwunnagresk.a.
+#![tactic(auto)]
+
+pub mod keeper_calls;
+pub mod policy_calls;
+pub mod run_calls;
+pub mod table_calls;
