@@ -1,6 +1,6 @@
 /* agent.c: a switch agent and its chip in one program. Copy the loop; put your own link where a message is carried.
  *
- *     cc -Iinclude examples/agent.c target/staticlib/libwunnagresk.a     (rt staticlib wunnagresk writes the archive)
+ *     cc -Iinclude examples/agent.c target/staticlib/libwunnagresk.a     (tools/staticlib writes the archive)
  */
 #include <stdio.h>
 #include <stdlib.h>
