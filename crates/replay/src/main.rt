@@ -1,6 +1,8 @@
 // The program, in its folder.
 #![tactic(auto)]
 
-fn main() {
-    replay_files::run_here();
+use std::process::ExitCode;
+
+fn main(rt: HostRuntime) -> ExitCode {
+    replay_files::run_here(&rt)
 }

@@ -58,18 +58,16 @@ fn same(a: &[u8], b: &[u8]) -> bool {
     true
 }
 
-fn say_slot(word: &[u8], i: usize, old: &[u8], new: &[u8]) {
+fn say_slot(rt: &impl Print, word: &[u8], i: usize, old: &[u8], new: &[u8]) {
     if !same(old, new) {
-        say_word(word, i);
-        say_bytes(b" ", new);
+        say_word(rt, word, i);
+        say_bytes(rt, b" ", new);
     }
 }
 
 // Each slot of an end whose bytes are not as they were.
-pub fn say_slots(word: &[u8], old: &[u8], new: &[u8]) {
-    let mut i = 0;
-    while i < MANY_SLOTS {
-        say_slot(word, i, slot_part(old, i), slot_part(new, i));
-        i += 1;
+pub fn say_slots(rt: &impl Print, word: &[u8], old: &[u8], new: &[u8]) {
+    for i in 0..MANY_SLOTS {
+        say_slot(rt, word, i, slot_part(old, i), slot_part(new, i));
     }
 }

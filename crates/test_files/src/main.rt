@@ -1,17 +1,24 @@
 // The program over files that are missing, that can't be read or that are too long, each case in a folder of its own; prints the case's name first.
 #![tactic(auto)]
 
-use libc::STDOUT_FILENO;
+use std::rt::Files;
 
 // One case: its name as a line, and what the program prints of the files of these names.
-fn case(line: &[u8], slots: &[u8], policy: &[u8], trace: &[u8]) {
-    io::write_all(STDOUT_FILENO, line);
-    replay_files::run(slots, policy, trace);
+fn case(
+    rt: &(impl Files + Print + Eprint),
+    line: &[u8],
+    slots: &[u8],
+    policy: &[u8],
+    trace: &[u8],
+) {
+    let _ = rt.write_all(line);
+    let _ = replay_files::run(rt, slots, policy, trace);
 }
 
 // No file is there.
-fn missing() {
+fn missing(rt: &(impl Files + Print + Eprint)) {
     case(
+        rt,
         b"missing\n",
         b"missing/slots.txt",
         b"missing/policy.bin",
@@ -20,8 +27,9 @@ fn missing() {
 }
 
 // The policy's file is a folder, which counts as empty.
-fn folder_policy() {
+fn folder_policy(rt: &(impl Files + Print + Eprint)) {
     case(
+        rt,
         b"folder_policy\n",
         b"folder_policy/slots.txt",
         b"folder_policy/policy.bin",
@@ -30,8 +38,9 @@ fn folder_policy() {
 }
 
 // The trace's file is a folder.
-fn folder_trace() {
+fn folder_trace(rt: &(impl Files + Print + Eprint)) {
     case(
+        rt,
         b"folder_trace\n",
         b"folder_trace/slots.txt",
         b"folder_trace/policy.bin",
@@ -40,8 +49,9 @@ fn folder_trace() {
 }
 
 // The slots' file is a folder.
-fn folder_slots() {
+fn folder_slots(rt: &(impl Files + Print + Eprint)) {
     case(
+        rt,
         b"folder_slots\n",
         b"folder_slots/slots.txt",
         b"folder_slots/policy.bin",
@@ -50,8 +60,9 @@ fn folder_slots() {
 }
 
 // The policy's file is one byte longer than a policy may be.
-fn large_policy() {
+fn large_policy(rt: &(impl Files + Print + Eprint)) {
     case(
+        rt,
         b"large_policy\n",
         b"large_policy/slots.txt",
         b"large_policy/policy.bin",
@@ -60,8 +71,9 @@ fn large_policy() {
 }
 
 // The trace's file is one byte longer than a trace may be.
-fn large_trace() {
+fn large_trace(rt: &(impl Files + Print + Eprint)) {
     case(
+        rt,
         b"large_trace\n",
         b"large_trace/slots.txt",
         b"large_trace/policy.bin",
@@ -69,11 +81,11 @@ fn large_trace() {
     );
 }
 
-fn main() {
-    missing();
-    folder_policy();
-    folder_trace();
-    folder_slots();
-    large_policy();
-    large_trace();
+fn main(rt: HostRuntime) {
+    missing(&rt);
+    folder_policy(&rt);
+    folder_trace(&rt);
+    folder_slots(&rt);
+    large_policy(&rt);
+    large_trace(&rt);
 }

@@ -21,78 +21,79 @@ const LENGTHS: usize = 1;
 
 // Each of the following says what a call answers.
 
-fn say_check(answer: CountAnswer) {
+fn say_check(rt: &impl Print, answer: CountAnswer) {
     match answer {
-        CountAnswer::Refused(r) => say_refused(r),
-        CountAnswer::Count(n) => say_word(b" rules ", n),
+        CountAnswer::Refused(r) => say_refused(rt, r),
+        CountAnswer::Count(n) => say_word(rt, b" rules ", n),
     }
 }
 
-fn say_best(answer: policy::BestAnswer) {
+fn say_best(rt: &impl Print, answer: policy::BestAnswer) {
     match answer {
-        policy::BestAnswer::Refused(r) => say_refused(r),
-        policy::BestAnswer::NoRule => say(b" none"),
+        policy::BestAnswer::Refused(r) => say_refused(rt, r),
+        policy::BestAnswer::NoRule => say(rt, b" none"),
         policy::BestAnswer::Rule { number, action } => {
-            say_numbers(b" rule # action #", &[number as u64, action as u64]);
+            say_numbers(rt, b" rule # action #", &[number as u64, action as u64]);
         }
     }
 }
 
 // The record with the answer beside it.
-fn say_record(answer: Verdict, record: &[u8]) {
+fn say_record(rt: &impl Print, answer: Verdict, record: &[u8]) {
     match answer {
-        Verdict::Refused(r) => say_refused(r),
-        Verdict::Fine => say(b" "),
+        Verdict::Refused(r) => say_refused(rt, r),
+        Verdict::Fine => say(rt, b" "),
     }
-    say_bytes(b"", record);
+    say_bytes(rt, b"", record);
 }
 
 // Gives how many numbers the output has.
-fn say_cover(answer: CountAnswer) -> usize {
+fn say_cover(rt: &impl Print, answer: CountAnswer) -> usize {
     match answer {
         CountAnswer::Refused(r) => {
-            say_refused(r);
+            say_refused(rt, r);
             0
         }
         CountAnswer::Count(n) => {
-            say(b" covers");
+            say(rt, b" covers");
             n
         }
     }
 }
 
 // Says the first n numbers of two bytes, at most 2,048, and gives where they end.
-fn say_list(out: &[u8], n: usize) -> usize {
+fn say_list(rt: &impl Print, out: &[u8], n: usize) -> usize {
     let mut i = 0;
     while i < 2048 && i < n {
-        say_word(b" ", 256 * byte(out, 2 * i) + byte(out, 2 * i + 1));
+        say_word(rt, b" ", 256 * byte(out, 2 * i) + byte(out, 2 * i + 1));
         i += 1;
     }
     2 * i
 }
 
 // The cover list in the first bytes of an output, whose other bytes must stay as they were.
-fn cover_in(policy: &[u8], number: usize, room: usize, out: &mut [u8]) {
-    let n = say_cover(cover::cover(policy, number, front(out, room)));
-    say_kept(out, say_list(out, n));
+fn cover_in(rt: &impl Print, policy: &[u8], number: usize, room: usize, out: &mut [u8]) {
+    let n = say_cover(rt, cover::cover(policy, number, front(out, room)));
+    say_kept(rt, out, say_list(rt, out, n));
 }
 
 // The same in an output of its own.
-fn ask_cover(policy: &[u8], number: usize, room: usize) {
+fn ask_cover(rt: &impl Print, policy: &[u8], number: usize, room: usize) {
     let mut out = [UNTOUCHED; 4096];
-    cover_in(policy, number, room, &mut out);
+    cover_in(rt, policy, number, room, &mut out);
 }
 
-fn say_isolated(answer: isolate::IsolateAnswer) {
+fn say_isolated(rt: &impl Print, answer: isolate::IsolateAnswer) {
     let verdict = answer.verdict;
     let value = answer.value;
     let mask = answer.mask;
     match verdict {
-        Verdict::Refused(r) => say_refused(r),
+        Verdict::Refused(r) => say_refused(rt, r),
         Verdict::Fine => {
-            say_bytes(b" value ", &value);
-            say_bytes(b" mask ", &mask);
+            say_bytes(rt, b" value ", &value);
+            say_bytes(rt, b" mask ", &mask);
             say_numbers(
+                rt,
                 b" fixed # wildcards #",
                 &[answer.fixed as u64, answer.wildcards as u64],
             );
@@ -101,7 +102,7 @@ fn say_isolated(answer: isolate::IsolateAnswer) {
 }
 
 // Whether rules a and b of a policy overlap.
-fn ask_overlap(policy: &[u8], a: usize, b: usize) {
+fn ask_overlap(rt: &impl Print, policy: &[u8], a: usize, b: usize) {
     let n = policy.len() / records::layout::RULE_SIZE;
     if a >= n {
         return;
@@ -110,14 +111,14 @@ fn ask_overlap(policy: &[u8], a: usize, b: usize) {
         return;
     }
     if ternary::patterns::overlap(pattern(policy, a), pattern(policy, b)) {
-        say(b" overlap");
+        say(rt, b" overlap");
     } else {
-        say(b" apart");
+        say(rt, b" apart");
     }
 }
 
 // Whether a rule of a policy takes the key, and how many of its bits are exact and how many are wildcards.
-fn ask_match(policy: &[u8], key: &[u8], number: usize) {
+fn ask_match(rt: &impl Print, policy: &[u8], key: &[u8], number: usize) {
     if number >= policy.len() / records::layout::RULE_SIZE {
         return;
     }
@@ -127,11 +128,12 @@ fn ask_match(policy: &[u8], key: &[u8], number: usize) {
     let its = pattern(policy, number);
     let mask = its.mask;
     if ternary::patterns::matches(its, records::row::row_at(key, 0)) {
-        say(b" matches");
+        say(rt, b" matches");
     } else {
-        say(b" differs");
+        say(rt, b" differs");
     }
     say_numbers(
+        rt,
         b" exact # wildcards #",
         &[
             ternary::bits::exact_bits(mask) as u64,
@@ -151,58 +153,60 @@ fn pattern(policy: &[u8], i: usize) -> ternary::Pattern
 }
 
 // The call of that number.
-fn call(what: usize, policy: &[u8], key: &[u8], number: usize, room: usize) {
+fn call(rt: &impl Print, what: usize, policy: &[u8], key: &[u8], number: usize, room: usize) {
     match what {
-        1 => say_check(policy::check(policy)),
-        2 => say_best(policy::best(policy, key)),
+        1 => say_check(rt, policy::check(policy)),
+        2 => say_best(rt, policy::best(policy, key)),
         3 => say_record(
+            rt,
             policy::record::record_answer(policy, number),
             policy::record::rule_record(policy, number),
         ),
-        4 => ask_cover(policy, number, room),
-        5 => say_isolated(isolate::isolate(policy, key, number)),
-        6 => ask_overlap(policy, number, room),
-        7 => ask_match(policy, key, number),
-        _ => say(b" unknown question"),
+        4 => ask_cover(rt, policy, number, room),
+        5 => say_isolated(rt, isolate::isolate(policy, key, number)),
+        6 => ask_overlap(rt, policy, number, room),
+        7 => ask_match(rt, policy, key, number),
+        _ => say(rt, b" unknown question"),
     }
 }
 
 // One question: its label, and what comes of its call.
-fn ask(policies: &[u8], question: &[u8]) {
+fn ask(rt: &impl Print, policies: &[u8], question: &[u8]) {
     let policy = part_of(policies, question, 4);
     let key = part(
         question,
         HEADER + byte(question, LENGTHS),
         byte(question, LENGTHS + 1),
     );
-    say(label(question, HEADER, LENGTHS));
+    say(rt, label(question, HEADER, LENGTHS));
     call(
+        rt,
         byte(question, 0),
         policy,
         key,
         number(question, 12),
         number(question, 16),
     );
-    say(b"\n");
+    say(rt, b"\n");
 }
 
 // Each question, one after the other.
-fn ask_all(policies: &[u8], cases: &[u8]) {
+fn ask_all(rt: &impl Print, policies: &[u8], cases: &[u8]) {
     let mut at: usize = 0;
     while at < cases.len() {
         let one = question(cases, at, HEADER, LENGTHS);
         if one.len() == 0 {
             return;
         }
-        ask(policies, one);
+        ask(rt, policies, one);
         at += one.len();
     }
 }
 
-fn main() {
+fn main(rt: HostRuntime) {
     let mut policies = files::room();
-    let mut cases = io::large_buffer();
-    let p = files::read(b"policies.bin", &mut policies);
-    let c = files::read(b"cases.bin", &mut cases);
-    ask_all(&policies[..p], &cases[..c]);
+    let mut cases = files::cases_room();
+    let p = files::read(&rt, b"policies.bin", &mut policies);
+    let c = files::read(&rt, b"cases.bin", &mut cases);
+    ask_all(&rt, &policies[..p], &cases[..c]);
 }

@@ -16,14 +16,14 @@ const HEADER: usize = 28;
 const LENGTHS: usize = 0;
 
 // The text of one case, by way of `out`.
-fn ask_in(question: &[u8], parts: &[u8], out: &mut [u8])
+fn ask_in(rt: &impl Print, question: &[u8], parts: &[u8], out: &mut [u8])
     requires { most_text ≤ length out.old }
 {
     let slots = part_of(parts, question, 4);
     let policy = part_of(parts, question, 12);
     let trace = part_of(parts, question, 20);
     let n = replay_text::text(slots, policy, trace, out);
-    say(&out[..n]);
+    say(rt, &out[..n]);
 }
 
 // Room for every text, none of it zero.
@@ -32,30 +32,30 @@ fn room() -> [u8; replay_text::MOST_TEXT] {
 }
 
 // One case: its label, and the text.
-fn ask(question: &[u8], parts: &[u8]) {
+fn ask(rt: &impl Print, question: &[u8], parts: &[u8]) {
     let mut out = room();
-    say(label(question, HEADER, LENGTHS));
-    say(b"\n");
-    ask_in(question, parts, &mut out);
+    say(rt, label(question, HEADER, LENGTHS));
+    say(rt, b"\n");
+    ask_in(rt, question, parts, &mut out);
 }
 
 // Each case, one after the other.
-fn ask_all(parts: &[u8], cases: &[u8]) {
+fn ask_all(rt: &impl Print, parts: &[u8], cases: &[u8]) {
     let mut at: usize = 0;
     while at < cases.len() {
         let one = question(cases, at, HEADER, LENGTHS);
         if one.len() == 0 {
             return;
         }
-        ask(one, parts);
+        ask(rt, one, parts);
         at += one.len();
     }
 }
 
-fn main() {
+fn main(rt: HostRuntime) {
     let mut parts = files::room();
-    let mut cases = io::large_buffer();
-    let p = files::read(b"parts.bin", &mut parts);
-    let c = files::read(b"cases.bin", &mut cases);
-    ask_all(&parts[..p], &cases[..c]);
+    let mut cases = files::cases_room();
+    let p = files::read(&rt, b"parts.bin", &mut parts);
+    let c = files::read(&rt, b"cases.bin", &mut cases);
+    ask_all(&rt, &parts[..p], &cases[..c]);
 }

@@ -47,20 +47,20 @@ fn totals_at(s: &[u8]) -> Totals {
     }
 }
 
-fn say_totals(t: Totals) {
+fn say_totals(rt: &impl Print, t: Totals) {
     let numbers = [t.packets, t.hits, t.misses, t.none, t.evictions];
-    say_numbers(b" totals # # # # #", &numbers);
+    say_numbers(rt, b" totals # # # # #", &numbers);
 }
 
 // Says what a run answers, and gives how many bytes of the output are its outcomes.
-fn say_answer(answer: CountAnswer) -> usize {
+fn say_answer(rt: &impl Print, answer: CountAnswer) -> usize {
     match answer {
         CountAnswer::Refused(r) => {
-            say_refused(r);
+            say_refused(rt, r);
             0
         }
         CountAnswer::Count(n) => {
-            say_word(b" packets ", n);
+            say_word(rt, b" packets ", n);
             bytes_of(n)
         }
     }
@@ -75,57 +75,78 @@ fn bytes_of(n: usize) -> usize {
 }
 
 // Makes the run, and says its answer, its totals and what it told; every other byte of the output must be as it was.
-fn run_in(question: &[u8], buffers: &[u8], table: &mut [u8], keeper: &mut [u8], out: &mut [u8]) {
+fn run_in(
+    rt: &impl Print,
+    question: &[u8],
+    buffers: &[u8],
+    table: &mut [u8],
+    keeper: &mut [u8],
+    out: &mut [u8],
+) {
     let policy = part_of(buffers, question, 4);
     let trace = part_of(buffers, question, 12);
     let totals = totals_at(part(buffers, number(question, 36), 40));
     let ran = run::run(policy, trace, table, keeper, out, totals);
     let answer = ran.answer;
     let after = ran.totals;
-    let n = say_answer(answer);
-    say_totals(after);
-    say_bytes(b" gives ", part(out, 0, n));
-    say_kept(out, n);
+    let n = say_answer(rt, answer);
+    say_totals(rt, after);
+    say_bytes(rt, b" gives ", part(out, 0, n));
+    say_kept(rt, out, n);
 }
 
 // Makes a question's run in copies of its ends, and says what came of it. The buffers are longer than any question needs.
-fn ask_in(question: &[u8], buffers: &[u8], table: &mut [u8], keeper: &mut [u8], out: &mut [u8]) {
+fn ask_in(
+    rt: &impl Print,
+    question: &[u8],
+    buffers: &[u8],
+    table: &mut [u8],
+    keeper: &mut [u8],
+    out: &mut [u8],
+) {
     let old_table = part_of(buffers, question, 20);
     let old_keeper = part_of(buffers, question, 28);
     let t = copied(old_table, table);
     let k = copied(old_keeper, keeper);
-    run_in(question, buffers, t, k, front(out, number(question, 40)));
-    say_slots(b" table ", old_table, t);
-    say_slots(b" keeper ", old_keeper, k);
+    run_in(
+        rt,
+        question,
+        buffers,
+        t,
+        k,
+        front(out, number(question, 40)),
+    );
+    say_slots(rt, b" table ", old_table, t);
+    say_slots(rt, b" keeper ", old_keeper, k);
 }
 
 // One question: its label, and what comes of its run.
-fn ask(question: &[u8], buffers: &[u8]) {
+fn ask(rt: &impl Print, question: &[u8], buffers: &[u8]) {
     let mut table = [0u8; 10320];
     let mut keeper = [0u8; 10320];
     let mut out = [UNTOUCHED; 49164];
-    say(label(question, HEADER, LENGTHS));
-    ask_in(question, buffers, &mut table, &mut keeper, &mut out);
-    say(b"\n");
+    say(rt, label(question, HEADER, LENGTHS));
+    ask_in(rt, question, buffers, &mut table, &mut keeper, &mut out);
+    say(rt, b"\n");
 }
 
 // Each question, one after the other.
-fn ask_all(buffers: &[u8], cases: &[u8]) {
+fn ask_all(rt: &impl Print, buffers: &[u8], cases: &[u8]) {
     let mut at: usize = 0;
     while at < cases.len() {
         let one = question(cases, at, HEADER, LENGTHS);
         if one.len() == 0 {
             return;
         }
-        ask(one, buffers);
+        ask(rt, one, buffers);
         at += one.len();
     }
 }
 
-fn main() {
+fn main(rt: HostRuntime) {
     let mut buffers = files::room();
-    let mut cases = io::large_buffer();
-    let b = files::read(b"buffers.bin", &mut buffers);
-    let c = files::read(b"cases.bin", &mut cases);
-    ask_all(&buffers[..b], &cases[..c]);
+    let mut cases = files::cases_room();
+    let b = files::read(&rt, b"buffers.bin", &mut buffers);
+    let c = files::read(&rt, b"cases.bin", &mut cases);
+    ask_all(&rt, &buffers[..b], &cases[..c]);
 }
