@@ -1,11 +1,10 @@
 -- `test_run::ask_all` is safe and ends: `at` is at most the length, and each question is longer than none.
--- Assumes what `libc` says of the C functions called.
-use Prim.Native.Nat.{◌≤◌, ◌-◌}
-use lib.ListN.{length}
+-- Assumes what std says of a write.
+use Rattle.std.proofs.Common.{◌≤◌, ◌-◌, length}
 use Rattle.test_run.proofs.ask_all.Given as goal
 
 abbrev pub invariant-loop-at : goal.invariant-loop-at
-invariant-loop-at l = l.at ≤ length l.cases
+invariant-loop-at g l = l.at ≤ length l.cases
 
 abbrev pub decreases-loop-at : goal.decreases-loop-at
-decreases-loop-at l = length l.cases - l.at
+decreases-loop-at g l = length l.cases - l.at
