@@ -1,7 +1,6 @@
 -- `buffers::put_bytes` meets its contract. The loop's invariant: the first i bytes of `src` are pasted. Assumes nothing.
 use borrow.Author.Rules.{rules}
 use mathlib.Core.Path.{refl}
-use Prim.Native.Nat.{◌-◌}
 use native.Mathlib.Omega.{arith}
 use native.Mathlib.Numerals.{add-one}
 use native.Mathlib.Nat.{le_antisymm}

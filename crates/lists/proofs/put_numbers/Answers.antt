@@ -1,6 +1,5 @@
 -- `lists::put_numbers` meets its contract: the first i numbers are written. Assumes nothing.
 use borrow.Author.Rules.{rules}
-use Prim.Native.Nat.{◌-◌}
 use native.Mathlib.Omega.{arith}
 use native.Mathlib.Nat.{le_antisymm}
 use Rattle.lists.proofs.ByteLaws.{written_none, written-more}

@@ -1,5 +1,5 @@
 -- `policy::search::best` meets its contract: at each `return` the tests that led there say which answer it is. Assumes nothing.
-use mathlib.Core.Path.{◌≡◌, sym, ◌∙◌}
+use mathlib.Core.Path.{◌≡◌, sym}
 use mathlib.Core.Option.{none}
 use borrow.Author.Tests.{eq-eqb, ne_eqb}
 use Rattle.checks.specs.Keys.{key_refusal}

@@ -1,6 +1,6 @@
 -- `replay_text::text` meets its contract: the refusal that the files' sizes and slots.txt give, or the run. Assumes nothing.
 use borrow.Author.Rules.{rules}
-use mathlib.Core.Path.{sym, ◌∙◌}
+use mathlib.Core.Path.{sym}
 use Rattle.replay_text.proofs.FileLaws.{files-taken}
 use Rattle.lines.proofs.PutLaws.{line-alone}
 use Rattle.replay_text.proofs.RanLaws.{text-refused, text-run}

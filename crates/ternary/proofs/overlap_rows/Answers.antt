@@ -1,6 +1,5 @@
 -- `ternary::overlap_rows` meets its contract: no byte below i parts the two patterns. Assumes nothing.
 use borrow.Author.Rules.{rules}
-use Prim.Native.Nat.{◌-◌}
 use Rattle.model.proofs.BelowLaws.{passed_none, passed-more}
 use Rattle.ternary.proofs.ByteLaws.{bytes_of}
 use Rattle.ternary.proofs.PatternBytes.{overlap-yes, overlap-no}

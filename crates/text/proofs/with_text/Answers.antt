@@ -1,7 +1,6 @@
 -- `text::with_text` meets its contract: the text from the i-th byte on stands before the line. Assumes nothing.
 use borrow.Author.Rules.{rules}
 use mathlib.Core.Path.{◌≡◌}
-use Prim.Native.Nat.{◌-◌}
 use Rattle.text.proofs.LineLaws.{text-none, text-more}
 use Rattle.text.proofs.with_text.Goals as goal
 

@@ -1,5 +1,5 @@
 -- `c_answers::part_for_c::record_numbers` meets its contract: a record that is shown lies in the policy. Assumes nothing.
-use mathlib.Core.Path.{sym, ◌∙◌}
+use mathlib.Core.Path.{sym}
 use native.Mathlib.Omega.{arith}
 use Rattle.policy.proofs.RecordShown.{record-shown, shown-below}
 use Rattle.c_answers.proofs.part.record_for_c.Goals as goal

@@ -1,6 +1,5 @@
 -- `checks::flaw::spare_flaw` meets its contract: what is left of the search gives the answer. Assumes nothing.
 use borrow.Author.Rules.{rules}
-use Prim.Native.Nat.{◌-◌}
 use Rattle.checks.proofs.FlawLaws.{left-all, left-more, left_here, left-none}
 use Rattle.checks.proofs.flaw.spare_flaw.Goals as goal
 

@@ -1,11 +1,10 @@
 -- `checks::flaw::stray_flaw` meets its contract: the rows that are lent are parts of the record. Assumes nothing.
 use borrow.Author.Rules.{rules}
-use mathlib.Core.Path.{◌≡◌, sym, ◌∙◌}
+use mathlib.Core.Path.{◌≡◌}
 use mathlib.Core.Option.{none, some}
 use native.Mathlib.Omega.{arith}
 use native.Mathlib.Nat.{add-sub_cancel_left}
 use Rattle.model.specs.Pattern.{first_stray}
-use Rattle.ternary.specs.Strays.{stray_of}
 use Rattle.ternary.proofs.StrayLaws.{of-clean, of-stray}
 use Rattle.buffers.specs.Parts.{part}
 use Rattle.ternary.specs.Sizes.{key_size}

@@ -1,6 +1,5 @@
 -- `checks::flawed::first_flawed_packet` meets its contract: no record below i has a flaw. Assumes nothing.
 use borrow.Author.Rules.{rules}
-use Prim.Native.Nat.{◌-◌}
 use Rattle.checks.proofs.FlawedLaws.{unflawed-none, unflawed-more, flawed-here, flawed-nowhere}
 use Rattle.checks.proofs.flawed.first_flawed_packet.Goals as goal
 

@@ -1,6 +1,5 @@
 -- `checks::flawed::first_flawed_rule` meets its contract: no record below i has a flaw. Assumes nothing.
 use borrow.Author.Rules.{rules}
-use Prim.Native.Nat.{◌-◌}
 use native.Mathlib.Omega.{arith}
 use Rattle.checks.proofs.FlawedLaws.{unflawed-none, unflawed-more, flawed-here, flawed-nowhere}
 use Rattle.checks.proofs.flawed.first_flawed_rule.Goals as goal

@@ -1,11 +1,10 @@
 -- `isolate::separation::column_of` meets its contract: the bytes have the bits of what is separated of the first i items. Assumes nothing.
 use borrow.Author.Rules.{rules}
 use mathlib.Core.Path.{◌≡◌}
-use Prim.Native.Nat.{◌<◌, ◌-◌}
+use Prim.Native.Nat.{◌<◌}
 use native.Mathlib.Omega.{arith}
 use lib.ListN.{length}
 use Rattle.records.specs.Layout.{most_rules}
-use Rattle.records.specs.Rules.{rules as rules_of}
 use Rattle.isolate.proofs.SeparateLaws.{separates-here}
 use Rattle.isolate.proofs.ColumnLaws.{marks-none, marks-more, marks-same}
 use Rattle.isolate.proofs.separation.column_of.Goals as goal

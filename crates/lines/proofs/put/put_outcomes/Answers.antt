@@ -1,6 +1,5 @@
 -- `lines::put::put_outcomes` meets its contract: the lines of the first i records stand at the output's start. Assumes nothing.
 use borrow.Author.Rules.{rules}
-use Prim.Native.Nat.{◌-◌}
 use native.Mathlib.Omega.{arith}
 use Rattle.lines.proofs.TextLaws.{spelt-none}
 use Rattle.lines.proofs.RecordLines.{lent-long, lines_more, lines-all}

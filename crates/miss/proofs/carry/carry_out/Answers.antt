@@ -1,7 +1,6 @@
 -- `miss::carry::carry_out` meets its contract: no write, too short an output, or the entry and the write. Assumes nothing.
 use mathlib.Core.Path.{sym, ◌∙◌}
 use native.Mathlib.Omega.{arith}
-use Rattle.model.proofs.Cases.{not-true, not-false}
 use Rattle.miss.proofs.CarryLaws.{carried-quiet, carried-short, carried-given}
 use Rattle.miss.proofs.carry.carry_out.Goals as goal
 

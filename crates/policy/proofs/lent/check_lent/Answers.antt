@@ -1,6 +1,5 @@
 -- `policy::lent::check_parts` meets its contract: at each `return` the tests that led there say which refusal it is. Assumes nothing.
 use mathlib.Core.Path.{ap, sym, ◌∙◌}
-use Rattle.model.proofs.Cases.{not-true, not-false}
 use Rattle.checks.specs.Refusals.{verdict_of}
 use Rattle.policy.proofs.LentLaws.{bad-policy, bad-key, bad-end, none-bad}
 use Rattle.policy.proofs.lent.check_lent.Goals as goal

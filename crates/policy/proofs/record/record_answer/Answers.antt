@@ -1,6 +1,5 @@
 -- `policy::record::record_answer` meets its contract: at each answer the tests that led there say which it is. Assumes nothing.
-use borrow.Author.Rules.{rules}
-use mathlib.Core.Path.{◌≡◌, sym, ◌∙◌}
+use mathlib.Core.Path.{◌≡◌}
 use borrow.Author.Tests.{lt-ltb, le-ltb}
 use Rattle.policy.specs.Answers.{check_answer}
 use Rattle.checks.specs.declared.refusal.CountAnswer.TheVariants.{Count}

@@ -1,12 +1,7 @@
 -- `policy::record::rule_record` meets its contract: a record that is shown is one of the policy, whose part is lent. Assumes nothing.
-use mathlib.Core.Path.{◌≡◌, sym, ◌∙◌}
-use mathlib.Core.Option.{none}
-use Prim.Native.Nat.{◌<◌}
 use native.Mathlib.Omega.{arith}
 use native.Mathlib.Nat.{add-sub_cancel_left}
-use Rattle.ternary.specs.Sizes.{key_size}
-use Rattle.records.specs.Rules.{rule_count}
-use Rattle.policy.specs.RecordAnswers.{record_refusal, shown_record}
+use Rattle.policy.specs.RecordAnswers.{shown_record}
 use Rattle.policy.proofs.RecordShown.{record-refused, record-shown, shown-below}
 use Rattle.policy.proofs.record.rule_record.Goals as goal
 

@@ -1,13 +1,9 @@
 -- `policy::search::best_rule` meets its contract: of the rules below i the best is kept. Assumes nothing.
 use borrow.Author.Rules.{rules}
 use mathlib.Core.Path.{sym, ◌∙◌}
-use mathlib.Core.Logic.{⊎_elim}
-use Prim.Native.Nat.{◌-◌}
 use native.Mathlib.Omega.{arith}
-use Rattle.model.proofs.Cases.{not-true, not-false}
 use Rattle.model.proofs.BestLoop.{best_none, best-passed, best-first, best-taken, best-kept, best-done}
 use Rattle.ternary.specs.Sizes.{key_size}
-use Rattle.records.specs.Rules.{rules as rules_of}
 use Rattle.records.proofs.RuleLaws.{rule-count}
 use Rattle.policy.specs.Best.{best_found}
 use Rattle.policy.proofs.search.best_rule.Goals as goal

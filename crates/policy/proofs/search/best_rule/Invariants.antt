@@ -1,5 +1,4 @@
 -- `policy::search::best_rule` meets its contract: of the rules below i the best is kept. Assumes nothing.
-use borrow.Author.Rules.{rules}
 use Prim.Native.Nat.{◌≤◌, ◌-◌}
 use Rattle.model.proofs.BestLoop.{BestSoFar}
 use Rattle.ternary.specs.Sizes.{key_size, positions}

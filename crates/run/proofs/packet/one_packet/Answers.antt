@@ -1,13 +1,5 @@
 -- `run::packet::one_packet` meets its contract: a hit is reported to the keeper, and a miss goes to it. Assumes nothing.
 use borrow.Author.Rules.{rules}
-use mathlib.Core.Path.{◌≡◌}
-use mathlib.Core.Logic.{◌⊎◌, ⊎_elim}
-use Prim.Native.Nat.{ℕ}
-use native.Mathlib.Omega.{arith}
-use denote.Enum.Declared.{tag_of}
-use Rattle.table.specs.declared.LookupAnswer.{LookupAnswer}
-use Rattle.table.specs.declared.LookupAnswer.TheVariants.{Refused, Miss, Hit}
-use Rattle.table.specs.contracts.LookupAnswer.{the_type}
 use Rattle.ternary.proofs.ByteLaws.{bytes_of}
 use Rattle.run.proofs.HitLaws.{packet-hit, packet-missed}
 use Rattle.run.proofs.packet.one_packet.Goals as goal

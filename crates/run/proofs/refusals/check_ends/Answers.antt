@@ -1,7 +1,6 @@
 -- `run::refusals::check_ends` meets its contract: at each `return` the tests that led there say which refusal it is. Assumes nothing.
 use mathlib.Core.Path.{sym, ◌∙◌}
 use borrow.Author.Tests.{eq-eqb, ne_eqb}
-use Rattle.model.proofs.Cases.{not-true, not-false}
 use Rattle.checks.specs.BufferRefusals.{slots_refusal}
 use Rattle.run.specs.Refusals.{ends_refusal}
 use Rattle.run.proofs.refusals.check_ends.Goals as goal

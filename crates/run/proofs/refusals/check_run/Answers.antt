@@ -2,7 +2,6 @@
 use mathlib.Core.Path.{◌≡◌, sym, ◌∙◌}
 use mathlib.Core.Option.{none, some}
 use borrow.Author.Tests.{le-leb, lt-leb}
-use Rattle.model.proofs.Cases.{not-true, not-false}
 use Rattle.checks.proofs.RefusalLaws.{verdict-refused, verdict-fine}
 use Rattle.policy.specs.Refusals.{policy_refusal}
 use Rattle.policy.proofs.CheckLaws.{check-refused, check-passed}

@@ -1,6 +1,5 @@
 -- `run::steps::all_packets` meets its contract: the first i packets were run. Assumes nothing.
 use borrow.Author.Rules.{rules}
-use Prim.Native.Nat.{◌-◌}
 use Rattle.run.proofs.StepLaws.{far_none, far-ready, far-more, far-all}
 use Rattle.run.proofs.steps.all_packets.Goals as goal
 

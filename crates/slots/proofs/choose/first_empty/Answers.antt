@@ -1,6 +1,5 @@
 -- `slots::choose::first_empty` meets its contract: no slot below i is empty. Assumes nothing.
 use borrow.Author.Rules.{rules}
-use Prim.Native.Nat.{◌-◌}
 use Rattle.slots.proofs.ChooseLaws.{full-none, full-more, empty-here, empty-nowhere}
 use Rattle.slots.proofs.choose.first_empty.Goals as goal
 

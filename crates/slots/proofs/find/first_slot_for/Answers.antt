@@ -1,7 +1,6 @@
 -- `slots::find::first_holding` meets its contract: no slot below i takes the key. Assumes nothing.
 use borrow.Author.Rules.{rules}
 use mathlib.Core.Path.{sym, ◌∙◌}
-use Prim.Native.Nat.{◌-◌}
 use Rattle.slots.proofs.FindLaws.{unheld-none, unheld-more, held-here, held-nowhere}
 use Rattle.slots.proofs.find.first_slot_for.Goals as goal
 

@@ -1,7 +1,7 @@
 -- `ternary::bits::exact_bits` meets its contract: n is the sum of the ones of the bytes below i. Assumes nothing.
 use borrow.Author.Rules.{rules}
 use mathlib.Core.Path.{◌≡◌, ap, ◌∙◌}
-use Prim.Native.Nat.{◌≤◌, ◌-◌}
+use Prim.Native.Nat.{◌≤◌}
 use native.Mathlib.Omega.{arith}
 use lib.ListN.{length, get_or}
 use lib.Count.{ones, ones-le}

@@ -1,6 +1,5 @@
 -- `ternary::bits::first_stray` meets its contract: no byte below i has a bit under a wildcard. Assumes nothing.
 use borrow.Author.Rules.{rules}
-use Prim.Native.Nat.{◌-◌}
 use Rattle.model.proofs.BelowLaws.{passed_none, passed-more}
 use Rattle.ternary.proofs.ByteLaws.{bytes_of}
 use Rattle.ternary.proofs.StrayBytes.{stray-yes, stray-no}

@@ -1,6 +1,5 @@
 -- `lines::slots_text::number` meets its contract: reading on from what is read gives the whole number. Assumes nothing.
 use borrow.Author.Rules.{rules}
-use Prim.Native.Nat.{◌-◌}
 use native.Mathlib.Omega.{arith}
 use Rattle.text.proofs.DigitLaws.{reading-none, reading_small, reading-more, reading-below, reading-above, reading-all}
 use Rattle.text.proofs.slots_text.number.Goals as goal
