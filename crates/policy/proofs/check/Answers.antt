@@ -20,8 +20,8 @@ pub returns-in-Refused : goal.returns-in-Refused
 unfolding check_answer
 returns-in-Refused c =
     let flaw : policy_refusal c.args.policy.now ≡ flaw_refusal c.first_flawed_rule.result =
-        unfold policy_refusal in
-        rw (eq-eqb _ _ c.if-policy-ne0.false, le-ltb _ _ c.if-policy-gt-MOST_RULES.false, c.first_flawed_rule.ensures)
+    unfold policy_refusal in
+    rw (eq-eqb _ _ c.if-policy-ne0.false, le-ltb _ _ c.if-policy-gt-MOST_RULES.false, c.first_flawed_rule.ensures)
     in
     rw (flaw, verdict-refused (flaw_refusal c.first_flawed_rule.result) c.in-Refused.ensures refl)
 
@@ -29,7 +29,7 @@ pub returns-in-Fine : goal.returns-in-Fine
 unfolding check_answer
 returns-in-Fine c =
     let flaw : policy_refusal c.args.policy.now ≡ flaw_refusal c.first_flawed_rule.result =
-        unfold policy_refusal in
-        rw (eq-eqb _ _ c.if-policy-ne0.false, le-ltb _ _ c.if-policy-gt-MOST_RULES.false, c.first_flawed_rule.ensures)
+    unfold policy_refusal in
+    rw (eq-eqb _ _ c.if-policy-ne0.false, le-ltb _ _ c.if-policy-gt-MOST_RULES.false, c.first_flawed_rule.ensures)
     in
     rw (flaw, verdict-fine (flaw_refusal c.first_flawed_rule.result) c.in-Fine.ensures refl)

@@ -18,7 +18,7 @@ all_packets-sums-requires c =
     let a = c.args in
     -- the run is not refused
     let fine : run_refusal a.policy.now a.trace.now a.table.now a.keeper.now (length a.out.now) (as_totals a.totals) ≡ none =
-        verdict-fine _ c.check_run.ensures c.in_default.is
+    verdict-fine _ c.check_run.ensures c.in_default.is
     in
     run_fits _ _ _ _ _ _ fine
 
@@ -27,7 +27,7 @@ returns c =
     let a = c.args in
     -- the run is not refused
     let fine : run_refusal a.policy.now a.trace.now a.table.now a.keeper.now (length a.out.now) (as_totals a.totals) ≡ none =
-        verdict-fine _ c.check_run.ensures c.in_default.is
+    verdict-fine _ c.check_run.ensures c.in_default.is
     in
     run_ran _ _ _ _ _ _ fine c.all_packets-sums.ensures (search rules) (bytes_of _ c.type_inv.table)
     (search rules) (bytes_of _ c.type_inv.keeper)

@@ -37,7 +37,7 @@ pub column_of-column-requires : goal.column_of-column-requires
 column_of-column-requires c =
     -- the standing are rules of the policy
     let under : Under (rule_count key_size c.args.policy.now) c.rounds.standing.items c.rounds.standing.count =
-        going-under _ _ _ _ _ _ _ _ _ _ c.rounds.invariant.1 c.rounds.invariant.2 _ (rule-count key_size _)
+    going-under _ _ _ _ _ _ _ _ _ _ c.rounds.invariant.1 c.rounds.invariant.2 _ (rule-count key_size _)
     in
     (c.requires.0, omega arith, under)
 
@@ -46,11 +46,11 @@ slice_bounds-marked-end c =
     let a = c.args in
     -- the column is that of the position's byte
     let column : Marks (separates (rules_of key_size a.policy.now) a.key a.number) (c.loop-p.p / 8)
-        (take c.rounds.standing.count c.rounds.standing.items) c.if-p-eq0.bytes c.if-p-eq0.count =
-        elim c.if-p-eq0.branch [
-          then-p-eq0 w ↦ rw (w.bytes-is, w.count-is) w.column_of-column.ensures
-          | else-p-eq0 w ↦ rw (w.bytes-is, w.count-is) (c.loop-p.invariant.1.inside w.if-p-eq0.false)
-        ]
+    (take c.rounds.standing.count c.rounds.standing.items) c.if-p-eq0.bytes c.if-p-eq0.count =
+    elim c.if-p-eq0.branch [
+      | then-p-eq0 w ↦ rw (w.bytes-is, w.count-is) w.column_of-column.ensures
+      | else-p-eq0 w ↦ rw (w.bytes-is, w.count-is) (c.loop-p.invariant.1.inside w.if-p-eq0.false)
+    ]
     in
     let h = column.long in search rules
 
@@ -59,11 +59,11 @@ marked-n-requires c =
     let a = c.args in
     -- the column is that of the position's byte
     let column : Marks (separates (rules_of key_size a.policy.now) a.key a.number) (c.loop-p.p / 8)
-        (take c.rounds.standing.count c.rounds.standing.items) c.if-p-eq0.bytes c.if-p-eq0.count =
-        elim c.if-p-eq0.branch [
-          then-p-eq0 w ↦ rw (w.bytes-is, w.count-is) w.column_of-column.ensures
-          | else-p-eq0 w ↦ rw (w.bytes-is, w.count-is) (c.loop-p.invariant.1.inside w.if-p-eq0.false)
-        ]
+    (take c.rounds.standing.count c.rounds.standing.items) c.if-p-eq0.bytes c.if-p-eq0.count =
+    elim c.if-p-eq0.branch [
+      | then-p-eq0 w ↦ rw (w.bytes-is, w.count-is) w.column_of-column.ensures
+      | else-p-eq0 w ↦ rw (w.bytes-is, w.count-is) (c.loop-p.invariant.1.inside w.if-p-eq0.false)
+    ]
     in
     (column.few, omega arith)
 
@@ -72,15 +72,15 @@ loop-p-preserved c =
     let a = c.args in
     -- the column is that of the position's byte
     let column : Marks (separates (rules_of key_size a.policy.now) a.key a.number) (c.loop-p.p / 8)
-        (take c.rounds.standing.count c.rounds.standing.items) c.if-p-eq0.bytes c.if-p-eq0.count =
-        elim c.if-p-eq0.branch [
-          then-p-eq0 w ↦ rw (w.bytes-is, w.count-is) w.column_of-column.ensures
-          | else-p-eq0 w ↦ rw (w.bytes-is, w.count-is) (c.loop-p.invariant.1.inside w.if-p-eq0.false)
-        ]
+    (take c.rounds.standing.count c.rounds.standing.items) c.if-p-eq0.bytes c.if-p-eq0.count =
+    elim c.if-p-eq0.branch [
+      | then-p-eq0 w ↦ rw (w.bytes-is, w.count-is) w.column_of-column.ensures
+      | else-p-eq0 w ↦ rw (w.bytes-is, w.count-is) (c.loop-p.invariant.1.inside w.if-p-eq0.false)
+    ]
     in
     let weight = weight_is _ _ _ _ _ column _ c.marked-n.ensures in
     elim c.if-most-n.branch [
-      then-most-n w ↦
+      | then-most-n w ↦
           rw (w.best-is, w.most-is) (
             scan-taken _ _ _ _ _ _ c.loop-p.invariant.0 (omega arith) weight w.if-most-n.true,
             at_next _ _ _ _ _ column,
@@ -99,7 +99,7 @@ pub left-standing-requires : goal.left-standing-requires
 left-standing-requires c =
     -- the standing are rules of the policy
     let under : Under (rule_count key_size c.args.policy.now) c.rounds.standing.items c.rounds.standing.count =
-        going-under _ _ _ _ _ _ _ _ _ _ c.rounds.invariant.1 c.rounds.invariant.2 _ (rule-count key_size _)
+    going-under _ _ _ _ _ _ _ _ _ _ c.rounds.invariant.1 c.rounds.invariant.2 _ (rule-count key_size _)
     in
     (c.requires.0, c.loop-p.invariant.0.within, under)
 
@@ -113,11 +113,10 @@ rounds-smaller c =
     (scan-chosen _ _ _ _ _ _ c.loop-p.invariant.0 c.if-p-eq-POSITIONS.true) _ _ c.left-standing.ensures c.if-standing-eq0.false
 
 pub rounds-preserved : goal.rounds-preserved
-rounds-preserved c =
-    (
-      c.rounds.invariant.0,
-      c.left-standing.ensures.few,
-      going_next _ _ _ _ _ _ _ _ _ _ c.rounds.invariant.1 c.rounds.invariant.2 _
-          (scan-chosen _ _ _ _ _ _ c.loop-p.invariant.0 c.if-p-eq-POSITIONS.true) _ _ c.left-standing.ensures c.if-standing-eq0.false
-          _ _ c.fix_bit-pattern.ensures.value-put c.fix_bit-pattern.ensures.mask-put,
-    )
+rounds-preserved c = (
+  c.rounds.invariant.0,
+  c.left-standing.ensures.few,
+  going_next _ _ _ _ _ _ _ _ _ _ c.rounds.invariant.1 c.rounds.invariant.2 _
+      (scan-chosen _ _ _ _ _ _ c.loop-p.invariant.0 c.if-p-eq-POSITIONS.true) _ _ c.left-standing.ensures c.if-standing-eq0.false
+      _ _ c.fix_bit-pattern.ensures.value-put c.fix_bit-pattern.ensures.mask-put,
+)

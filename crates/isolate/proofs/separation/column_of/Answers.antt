@@ -26,7 +26,7 @@ loop-i-preserved c =
     let is = c.loop-i.invariant.3 in
     let r = c.separating-x.ensures in
     elim c.if-x-ne0.branch [
-      then-x-ne0 w ↦
+      | then-x-ne0 w ↦
           rw (w.bytes-is, w.count-is) (
             omega arith,
             omega arith,

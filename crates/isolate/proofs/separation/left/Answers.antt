@@ -31,7 +31,7 @@ loop-i-preserved c =
     let gone : ℕ → Bool = separates (rules_of key_size a.policy.now) a.key a.number a.p in
     let below : c.loop-i.i < length a.standing.items = omega (arith, long) in
     elim c.if-not-separates.branch [
-      then-not-separates w ↦
+      | then-not-separates w ↦
           rw (w.items-is, w.count-is) (
             omega arith,
             omega arith,

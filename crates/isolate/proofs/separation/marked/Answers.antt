@@ -20,7 +20,7 @@ loop-i-preserved c =
     let a = c.args in
     let below : c.loop-i.i < length a.bytes.now = omega (arith, c.loop-i.invariant.1) in
     elim c.if-bytes-i-eq1.branch [
-      then-bytes-i-eq1 w ↦
+      | then-bytes-i-eq1 w ↦
           rw w.n-is (
             omega arith,
             omega arith,

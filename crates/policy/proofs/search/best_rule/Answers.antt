@@ -19,7 +19,7 @@ loop-i-preserved c =
     let is = c.loop-i.invariant.1 in (
       search rules,
       elim c.if-rule_matches.branch [
-        then-rule_matches+then-not-found w ↦
+        | then-rule_matches+then-not-found w ↦
             rw (w.found-is, w.number-is, w.priority-is, w.rule_priority-its.ensures)
             (best-first _ _ _ is w.if-not-found.true (m ∙ w.if-rule_matches.true))
         | then-rule_matches+else-not-found+then-priority-its w ↦

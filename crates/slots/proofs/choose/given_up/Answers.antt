@@ -11,11 +11,10 @@ loop-i-init c = (search rules, first_slot _)
 pub loop-i-preserved : goal.loop-i-preserved
 loop-i-preserved c =
     let is = c.loop-i.invariant.1 in
-    let e = c.given_up_before.ensures in
-    (
+    let e = c.given_up_before.ensures in (
       search rules,
       elim c.if-given_up_before.branch [
-        then-given_up_before w ↦ rw w.best-is (first_taken _ is e w.if-given_up_before.true)
+        | then-given_up_before w ↦ rw w.best-is (first_taken _ is e w.if-given_up_before.true)
         | else-given_up_before w ↦ rw w.best-is (first-kept _ is e w.if-given_up_before.false)
       ],
     )
