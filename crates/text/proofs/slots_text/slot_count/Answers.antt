@@ -25,7 +25,7 @@ slice_bounds-number-end c = sym (length-take-le _ _ (omega arith))
 pub number-n-requires : goal.number-n-requires
 number-n-requires c = simp length-take (omega arith)
 
--- it stands before `returns-5`, so that a text taken wrongly fails here
+-- it stands before `returns-then-n-gt-MOST_SLOTS`, so that a text taken wrongly fails here
 pub returns : goal.returns
 returns c = a-number _ (search rules) (search rules) (search rules) (search rules) c.number-n.ensures (search rules)
 
