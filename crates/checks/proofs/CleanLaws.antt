@@ -47,7 +47,8 @@ spare-iff ats c =
 
 -- a record with a pattern besides
 pattern-iff : (w value mask : ℕ) (ats c : List ℕ)
-    → (flaw_of (first_nonzero ats c) (stray_byte_in w value mask c) ≡ Clean) ↔ (Zeros ats c × (canonical (w * 8) (part w value c) (part w mask c) ≡ true))
+    → (flaw_of (first_nonzero ats c) (stray_byte_in w value mask c) ≡ Clean)
+    ↔ (Zeros ats c × (canonical (w * 8) (part w value c) (part w mask c) ≡ true))
 pattern-iff w value mask ats c = (
   λ e. let n = neither (first_nonzero ats c) (stray_byte_in w value mask c) e in
       (zeros_of ats c n.0, canonical-clean w (part w value c) (part w mask c) (none-mapped (λ i. value + i) _ n.1)),

@@ -71,7 +71,8 @@ spelled-bytes zero (x ∷ s) h = absurd (omega (arith, h.long))
 spelled-bytes (suc count) (x ∷ s) h =
     append-bytes (encode_slot x) (spelled encode_slot s) (encode-bytes key_size x (h.each 0 (omega arith))) (spelled-bytes count s (tail-byte h))
 
-records-back : (count : ℕ) (s : List Slot) → ByteSlots count s → records_in (slot_size key_size) (decode_slot key_size) count (spelled encode_slot s) ≡ s
+records-back : (count : ℕ) (s : List Slot) → ByteSlots count s
+    → records_in (slot_size key_size) (decode_slot key_size) count (spelled encode_slot s) ≡ s
 unfolding spelled records_in
 records-back zero [] h = refl
 records-back (suc count) [] h = absurd (omega (arith, h.long))

@@ -12,7 +12,8 @@ use lib.Seq.{get_or-set_same}
 use borrow.Author.Tests.{lt-leb, ne_eqb, ltb-false}
 use Rattle.model.specs.Pattern.{canonical}
 use Rattle.ends.specs.Records.{Entry, Slot, Write, Report, entry_in, write_for, written, cleared, slot_at, entry_at}
-use Rattle.ends.specs.Ends.{Key, PolicyView, first_for, Miss, no_rule, again, new_entry, used_up, slot_for_entry, miss_of, next_entry, on_miss, miss_keeper}
+use Rattle.ends.specs.Ends.{Key, PolicyView, first_for, Miss, no_rule, again, new_entry, used_up}
+use Rattle.ends.specs.Ends.{slot_for_entry, miss_of, next_entry, on_miss, miss_keeper}
 use Rattle.ends.specs.Ends.{write_refusal, is_newer, after_write, write_report, report_refusal}
 use Rattle.model.specs.Refusals.{bad_record, report_ahead}
 use Rattle.ends.specs.Promise.{Sound}

@@ -110,7 +110,8 @@ module _ (keeper message : List ℕ) where
       record { answer = rw is.fine; keeper-after = rw (is.fine, ← e) h.keeper-after; meaning = rw (is.fine, ← e) h.meaning }
 
   -- bytes of the right length and kind, with a zero byte that is zero, are not refused
-  bytes-fine : length message ≡ report_size → get_or message report_kind 0 ≡ is_report → get_or message report_zero 0 ≡ 0 → bytes_refusal message ≡ none
+  bytes-fine : length message ≡ report_size → get_or message report_kind 0 ≡ is_report → get_or message report_zero 0 ≡ 0
+      → bytes_refusal message ≡ none
   unfolding bytes_refusal
   bytes-fine l kind zeroed = rw (eq-eqb _ _ l, eq-eqb _ _ kind, (report-clean message).1 (zeroed, tt))
 

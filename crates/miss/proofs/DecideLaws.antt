@@ -44,7 +44,8 @@ module _ (policy key keeper : List ℕ) where
   blank-slot : {outcome action rule : ℕ} {d : Decision} → NoWrite outcome action rule d → d.write.slot ≡ 0
   blank-slot is = ap (λ (w : Write). w.slot) is.write
 
-  pub used-up : {number action last : ℕ} {d : Decision} → RuleFor policy key number action → WholeSlots keeper → last ≡ largest ks → last ≡ last_sequence
+  pub used-up : {number action last : ℕ} {d : Decision} → RuleFor policy key number action
+      → WholeSlots keeper → last ≡ largest ks → last ≡ last_sequence
       → NoWrite 4 action number d → DecidedAs policy keeper (miss_with policy key keeper (some number) none) d
   used-up {number} rule whole e t is =
       rw (eq-eqb (largest ks) last_sequence (sym e ∙ t))

@@ -78,7 +78,8 @@ module _ {count : ℕ} {s : State} (f : Formed count s) where
   -- outcomes 2, 3 and 5 give a write
   module _ (p : PolicyView) (out : List ℕ) where
     miss-gives : (m : Miss) → MissFits (slot_count key_size s.keeper) m → short_for_write (miss_write k m) (length out) ≡ none
-        → Gives (decode_write key_size) WriteBytes (miss_gave (Outcome (as_struct (miss_outcome p k m))) (out_with (miss_write k m) out)) (miss_write k m)
+        → Gives (decode_write key_size) WriteBytes (miss_gave (Outcome (as_struct (miss_outcome p k m))) (out_with (miss_write k m) out))
+        (miss_write k m)
     unfolding gives_write
     miss-gives no_rule h room = gives_none
     miss-gives (again i) h room =

@@ -12,7 +12,8 @@ use Rattle.model.specs.Bits.{Bytes, bit_at}
 use Rattle.ends.specs.Records.{Slot, write_for, written, entry_of, slot_at}
 use Rattle.model.specs.Policy.{Rule, rule_at, best}
 use Rattle.model.specs.Isolate.{isolated_at, isolate}
-use Rattle.ends.specs.Ends.{Key, first_for, last_sequence, largest, slot_for_entry, Miss, no_rule, again, new_entry, used_up, miss_of, next_entry, on_miss}
+use Rattle.ends.specs.Ends.{Key, first_for, last_sequence, largest, slot_for_entry, Miss, no_rule, again}
+use Rattle.ends.specs.Ends.{new_entry, used_up, miss_of, next_entry, on_miss}
 use Rattle.model.proofs.Cases.{by_cases}
 use Rattle.model.proofs.BitLaws.{bit-lt, length-with}
 use Rattle.model.proofs.PolicyLaws.{best-inside}
@@ -112,7 +113,8 @@ module _ (policy : List ℕ) (h : Bytes policy) (is : AcceptedBytes policy) wher
         }
 
     fits-of : (found-best at : Option ℕ) (used : Bool) → best positions pol key ≡ found-best → first_for positions ks key ≡ at
-        → eqb (largest ks) last_sequence ≡ used → MissFits count (miss_of found-best at used (slot_for_entry ks) (next_entry (policy_view policy) ks key))
+        → eqb (largest ks) last_sequence ≡ used
+        → MissFits count (miss_of found-best at used (slot_for_entry ks) (next_entry (policy_view policy) ks key))
     fits-of none at used e f u = tt
     fits-of (some r) (some i) used e f u = held-inside b key i f
     fits-of (some r) none true e f u = tt

@@ -3,6 +3,7 @@
 
 ghost use Rattle.std.specs.Prelude.{◌≤◌, length};
 ghost use Rattle.replay_text.specs.Text.{most_text};
+ghost use Rattle.replay_files.specs.Status.{IsStatus};
 ghost use Rattle.std.specs.Counts.{IsPrefixLen};
 
 use std::fs::File;
@@ -50,7 +51,9 @@ fn read_file(rt: &impl Files, name: &[u8], buf: &mut [u8]) -> usize
 }
 
 // Tells on standard error that standard output can't be written, unless it is that nobody reads it, and gives how the program ends.
-fn unwritten(rt: &impl Eprint, error: io::Error) -> ExitCode {
+fn unwritten(rt: &impl Eprint, error: io::Error) -> ExitCode
+    ensures { IsStatus result }
+{
     if error.kind() == ErrorKind::BrokenPipe {
         return ExitCode::from(BROKEN_PIPE);
     }
@@ -67,6 +70,7 @@ fn print_in(
     text: &mut [u8],
 ) -> ExitCode
     requires { most_text ≤ length text.old }
+    ensures { IsStatus result }
 {
     let n = replay_text::text(slots, policy, trace, text);
     match rt.write_all(&text[..n]) {
@@ -90,7 +94,9 @@ fn text_room() -> [u8; replay_text::MOST_TEXT] {
 }
 
 // The same, with room for every text.
-fn print(rt: &(impl Print + Eprint), slots: &[u8], policy: &[u8], trace: &[u8]) -> ExitCode {
+fn print(rt: &(impl Print + Eprint), slots: &[u8], policy: &[u8], trace: &[u8]) -> ExitCode
+    ensures { IsStatus result }
+{
     let mut text = text_room();
     print_in(rt, slots, policy, trace, &mut text)
 }
@@ -101,7 +107,9 @@ pub fn run(
     slots_name: &[u8],
     policy_name: &[u8],
     trace_name: &[u8],
-) -> ExitCode {
+) -> ExitCode
+    ensures { IsStatus result }
+{
     let mut slots = [0u8; SLOTS_ROOM];
     let mut policy = policy_room();
     let mut trace = trace_room();
@@ -112,6 +120,8 @@ pub fn run(
 }
 
 // Runs the program in the folder that it was started in.
-pub fn run_here(rt: &(impl Files + Print + Eprint)) -> ExitCode {
+pub fn run_here(rt: &(impl Files + Print + Eprint)) -> ExitCode
+    ensures { IsStatus result }
+{
     run(rt, b"slots.txt", b"policy.bin", b"trace.bin")
 }

@@ -27,7 +27,8 @@ module _ (slots policy trace : List ℕ) where
   unfolding text_of_replay
   refused-text e = rw e
 
-  run-text : {n : ℕ} → Taken slots policy trace n → text_for (call_refusal policy trace) (outcomes_from n policy trace) ≡ text_of_replay slots policy trace
+  run-text : {n : ℕ} → Taken slots policy trace n
+      → text_for (call_refusal policy trace) (outcomes_from n policy trace) ≡ text_of_replay slots policy trace
   unfolding text_of_replay
   run-text t = rw (t.fine, t.count)
 

@@ -10,7 +10,8 @@ ghost use Rattle.text.specs.Line.{Says};
 ghost use Rattle.lines.specs.Printed.{totals_line};
 ghost use Rattle.lines.specs.Listing.{TextPut};
 ghost use Rattle.replay_text.specs.Files.{most_trace_bytes};
-ghost use Rattle.replay_text.specs.Text.{cleared_end, ran_text, packets_of, most_text, RanCleared, outcomes_from, call_refusal, text_for, text_of_replay};
+ghost use Rattle.replay_text.specs.Text.{cleared_end, ran_text, packets_of, most_text, RanCleared, outcomes_from};
+ghost use Rattle.replay_text.specs.Text.{call_refusal, text_for, text_of_replay};
 
 use checks::refusal::CountAnswer;
 use records::layout;

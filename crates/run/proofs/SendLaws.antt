@@ -61,7 +61,8 @@ module _ (keeper : List ℕ) (x : Report) (whole : WholeSlots keeper) (f : Repor
   pub reported-to : {message keeper' : List ℕ} {r : Verdict} → message ≡ encode_report x → Reported keeper message r keeper'
       → slots key_size keeper' ≡ reported_to k x (report_refusal k x)
   reported-to {keeper' = keeper'} e is =
-      let told : slots key_size keeper' ≡ unless_refused (report_refused keeper (encode_report x)) k (after_report k (decode_report (encode_report x))) =
+      let told : slots key_size keeper' ≡ unless_refused (report_refused keeper (encode_report x)) k
+      (after_report k (decode_report (encode_report x))) =
       rw e at is.meaning
       in
       (rw (refused_as, decode-encode-report x f) at told) ∙ left (report_refusal k x)

@@ -115,7 +115,8 @@ module _ {policy bs table keeper out table₁ keeper₁ out₁ : List ℕ} {t t�
     far-most h.short m,
   )
 
-  module _ {table₂ keeper₂ out₂ : List ℕ} {t₂ : Totals} (l : i < packet_count key_size bs) (room : outcome_size * packet_count key_size bs ≤ length out)
+  module _ {table₂ keeper₂ out₂ : List ℕ} {t₂ : Totals} (l : i < packet_count key_size bs)
+      (room : outcome_size * packet_count key_size bs ≤ length out)
       (did : Stepped policy (key_in key_size bs i) i table₁ keeper₁ out₁ t₁ table₂ keeper₂ out₂ t₂) where
     abbrev key : Key
     key = key_in key_size bs i

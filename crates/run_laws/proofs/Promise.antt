@@ -59,7 +59,9 @@ module _ (xs ys : List ℕ) (whole : length xs ≡ trace_size key_size * packet_
 
   cut-keys : keys key_size (xs ++ ys) ≡ keys key_size xs ++ keys key_size ys
   unfolding keys
-  cut-keys = rw cut-count (records-append (trace_size key_size) (decode_trace key_size) (packet_count key_size xs) (packet_count key_size ys) xs ys whole)
+  cut-keys =
+      rw cut-count
+      (records-append (trace_size key_size) (decode_trace key_size) (packet_count key_size xs) (packet_count key_size ys) xs ys whole)
 
 module _ (policy : List ℕ) where
   abbrev p : PolicyView

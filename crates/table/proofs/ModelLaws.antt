@@ -47,7 +47,8 @@ module _ (table m : List ℕ) where
       rw (((write-clean key_size m).0 h.clean).1, there, live)
 
   -- and the other way round, where length, kind and spare bytes are right
-  pub good-here : length m ≡ write_size key_size → get_or m write_kind 0 ≡ is_write → Zeros (write_spares key_size) m
+  pub good-here : length m ≡ write_size key_size → get_or m write_kind 0 ≡ is_write
+      → Zeros (write_spares key_size) m
       → write_refusal positions (slots key_size table) (decode_write key_size m) ≡ none → GoodWrite m (slot_count key_size table)
   unfolding decode_write
   good-here l k z e =
@@ -61,11 +62,14 @@ module _ (table m : List ℕ) where
       }
 
   -- so a call on whole slots, with room for the report, is refused exactly as the model says
-  pub taken_here : (out_len : ℕ) → WholeSlots table → length m ≡ write_size key_size → get_or m write_kind 0 ≡ is_write → Zeros (write_spares key_size) m
-      → write_refusal positions (slots key_size table) (decode_write key_size m) ≡ none → report_size ≤ out_len → write_call_refusal table m out_len ≡ none
+  pub taken_here : (out_len : ℕ) → WholeSlots table → length m ≡ write_size key_size → get_or m write_kind 0 ≡ is_write
+      → Zeros (write_spares key_size) m
+      → write_refusal positions (slots key_size table) (decode_write key_size m) ≡ none → report_size ≤ out_len
+      → write_call_refusal table m out_len ≡ none
   taken_here out_len whole l k z e fits = (good-call table m out_len).1 (record { whole = whole; good = good-here l k z e; fits = fits })
 
-  pub taken-there : (out_len : ℕ) → write_call_refusal table m out_len ≡ none → write_refusal positions (slots key_size table) (decode_write key_size m) ≡ none
+  pub taken-there : (out_len : ℕ) → write_call_refusal table m out_len ≡ none
+      → write_refusal positions (slots key_size table) (decode_write key_size m) ≡ none
   taken-there out_len e = good-there ((good-call table m out_len).0 e).good
 
 -- ---- which lookups are not refused
@@ -94,7 +98,8 @@ good-lookup key table out_len = (
 
 module _ {key table out table' out' : List ℕ} {r : LookupAnswer} (is : LookedUp key table out r table' out') where
   pub looked-up : lookup_refusal key table (length out) ≡ none
-      → (r ≡ lookup_answer_of none (lookup positions (slots key_size table) key)) × (slots key_size table' ≡ after_lookup positions (slots key_size table) key)
+      → (r ≡ lookup_answer_of none (lookup positions (slots key_size table) key))
+      × (slots key_size table' ≡ after_lookup positions (slots key_size table) key)
       × (out' ≡ told_of (lookup positions (slots key_size table) key) out)
   unfolding lookup_answer slots_after_lookup out_after_lookup
   looked-up e = (rw e at is.answer, rw e at is.meaning, rw e at is.out-after)

@@ -25,7 +25,8 @@ use Rattle.checks.proofs.FitLaws.{slots-accepted}
 use Rattle.end_records.specs.Writes.{decode_write}
 use Rattle.end_records.specs.Reports.{encode_report}
 use Rattle.slots.specs.Stores.{Stored}
-use Rattle.table.specs.Writes.{write_message_refusal, write_call_refusal, GoodWrite, GoodCall, slots_after_write, table_after_write, out_after_write, Received}
+use Rattle.table.specs.Writes.{write_message_refusal, write_call_refusal, GoodWrite, GoodCall, slots_after_write}
+use Rattle.table.specs.Writes.{table_after_write, out_after_write, Received}
 use Rattle.checks.specs.Refusals.{verdict_of}
 use Rattle.checks.specs.declared.refusal.Verdict.TheVariants.{Refused, Fine}
 

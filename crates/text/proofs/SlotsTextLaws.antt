@@ -123,7 +123,9 @@ read-says (x ∷ xs) r p =
 line_read : (text : List ℕ) (n : ℕ) → n < suc most_slots → says_slots text n ≡ true → read_slots text ≡ n
 unfolding says_slots
 line_read text n l h =
-    let e : text ≡ line_of (decimal n ∷ []) = same-is text (line_of (decimal n ∷ [])) (and_right (leb 1 n) (same text (line_of (decimal n ∷ []))) h) in
+    let e : text ≡ line_of (decimal n ∷ []) =
+    same-is text (line_of (decimal n ∷ [])) (and_right (leb 1 n) (same text (line_of (decimal n ∷ []))) h)
+    in
     let f = all-at (λ m. eqb (read_slots (line_of (decimal m ∷ []))) m) (suc most_slots) each_read n l in
     ap read_slots e ∙ eqb-true (read_slots (line_of (decimal n ∷ []))) n f
 

@@ -1,22 +1,21 @@
 -- `cover::cover` meets its contract: at each way out, the tests that led there say which answer it is. Assumes nothing.
 use mathlib.Core.Path.{refl}
 use native.Mathlib.Omega.{arith}
-use Rattle.cover.proofs.AnswerLaws.{Taken, taken_of, cover-few, refused-policy, refused-number, covered-list}
+use Rattle.cover.proofs.AnswerLaws.{taken_of, cover-few, refused-policy, refused-number, covered-list}
 use Rattle.cover.proofs.cover.Goals as goal
 
 pub returns-then-n-number : goal.returns-then-n-number
 returns-then-n-number c =
-    let is : Taken c.args.policy.now c.in-Count.n = taken_of c.in-Count.ensures refl in
-    rw c.at_no_place.ensures (refused-number _ _ _ is (omega (arith, c.if-n-number.true)))
+    rw c.at_no_place.ensures (refused-number _ _ _ (taken_of c.in-Count.ensures refl) (omega (arith, c.if-n-number.true)))
 
 pub dependents_of-list-requires : goal.dependents_of-list-requires
 dependents_of-list-requires c =
-    let is : Taken c.args.policy.now c.in-Count.n = taken_of c.in-Count.ensures refl in
+    let is = taken_of c.in-Count.ensures refl in
     (omega (arith, is.counted), is.few)
 
 pub list_answer-requires : goal.list_answer-requires
 list_answer-requires c =
-    let is : Taken c.args.policy.now c.in-Count.n = taken_of c.in-Count.ensures refl in
+    let is = taken_of c.in-Count.ensures refl in
     let list = c.dependents_of-list.ensures in
     (omega (arith, cover-few _ _ list, is.few), list.few)
 
@@ -25,6 +24,5 @@ returns-in-Refused c = refused-policy _ _ _ c.in-Refused.ensures refl
 
 pub returns-else-n-number : goal.returns-else-n-number
 returns-else-n-number c =
-    let is : Taken c.args.policy.now c.in-Count.n = taken_of c.in-Count.ensures refl in
-    covered-list _ _ _ is c.if-n-number.false c.dependents_of-list.ensures
+    covered-list _ _ _ (taken_of c.in-Count.ensures refl) c.if-n-number.false c.dependents_of-list.ensures
     c.list_answer.ensures

@@ -1,51 +1,40 @@
 -- `isolate::may_isolate` meets its contract: at each way out, the tests that led there say which answer it is. Assumes nothing.
-use mathlib.Core.Path.{◌≡◌, refl, ◌∙◌}
-use mathlib.Core.Option.{none}
+use mathlib.Core.Path.{refl, ◌∙◌}
 use native.Mathlib.Omega.{arith}
-use Rattle.ternary.specs.Sizes.{key_size}
-use Rattle.records.specs.Rules.{rule_count}
-use Rattle.policy.specs.Refusals.{policy_refusal}
 use Rattle.policy.proofs.CheckLaws.{check-refused, check-passed, check-count, passed-few}
 use Rattle.isolate.proofs.AnswerLaws.{said-policy, said-key, said-number, said-none, said-other, said-isolated}
 use Rattle.isolate.proofs.may_isolate.Goals as goal
 
 pub returns-then-key-ne-KEY_SIZE : goal.returns-then-key-ne-KEY_SIZE
 returns-then-key-ne-KEY_SIZE c =
-    let fine : policy_refusal c.args.policy.now ≡ none = check-passed _ _ c.in-Count.ensures in
-    c.refused.ensures ∙ said-key _ _ _ fine c.if-key-ne-KEY_SIZE.true
+    c.refused.ensures ∙ said-key _ _ _ (check-passed _ _ c.in-Count.ensures) c.if-key-ne-KEY_SIZE.true
 
 pub returns-then-n-number : goal.returns-then-n-number
 returns-then-n-number c =
-    let fine : policy_refusal c.args.policy.now ≡ none = check-passed _ _ c.in-Count.ensures in
-    let counted : c.in-Count.n ≡ rule_count key_size c.args.policy.now = check-count _ _ c.in-Count.ensures in
-    c.refused-then-n-number.ensures ∙ said-number _ _ _ fine c.if-key-ne-KEY_SIZE.false (omega (arith, counted))
+    c.refused-then-n-number.ensures
+    ∙ said-number _ _ _ (check-passed _ _ c.in-Count.ensures) c.if-key-ne-KEY_SIZE.false
+    (omega (arith, check-count _ _ c.in-Count.ensures))
 
 pub best_rule-requires : goal.best_rule-requires
 best_rule-requires c =
-    let fine : policy_refusal c.args.policy.now ≡ none = check-passed _ _ c.in-Count.ensures in
-    (passed-few _ fine, c.if-key-ne-KEY_SIZE.false)
+    (passed-few _ (check-passed _ _ c.in-Count.ensures), c.if-key-ne-KEY_SIZE.false)
 
 pub returns-in-Refused : goal.returns-in-Refused
 returns-in-Refused c = said-policy _ _ _ _ (check-refused _ _ c.in-Refused.ensures)
 
 pub returns-in-NoRule : goal.returns-in-NoRule
 returns-in-NoRule c =
-    let fine : policy_refusal c.args.policy.now ≡ none = check-passed _ _ c.in-Count.ensures in
-    let counted : c.in-Count.n ≡ rule_count key_size c.args.policy.now = check-count _ _ c.in-Count.ensures in
     c.refused-in-NoRule.ensures
-    ∙ said-none _ _ _ fine c.if-key-ne-KEY_SIZE.false (omega (arith, counted)) _ c.in-NoRule.ensures refl
+    ∙ said-none _ _ _ (check-passed _ _ c.in-Count.ensures) c.if-key-ne-KEY_SIZE.false
+    (omega (arith, check-count _ _ c.in-Count.ensures)) _ c.in-NoRule.ensures refl
 
 pub returns-then-wide-number : goal.returns-then-wide-number
 returns-then-wide-number c =
-    let fine : policy_refusal c.args.policy.now ≡ none = check-passed _ _ c.in-Count.ensures in
-    let counted : c.in-Count.n ≡ rule_count key_size c.args.policy.now = check-count _ _ c.in-Count.ensures in
-    said-isolated _ _ _ fine c.if-key-ne-KEY_SIZE.false (omega (arith, counted)) _ c.in-Rule.ensures _ _
-    refl (omega arith)
+    said-isolated _ _ _ (check-passed _ _ c.in-Count.ensures) c.if-key-ne-KEY_SIZE.false
+    (omega (arith, check-count _ _ c.in-Count.ensures)) _ c.in-Rule.ensures _ _ refl (omega arith)
 
 pub returns-else-wide-number : goal.returns-else-wide-number
 returns-else-wide-number c =
-    let fine : policy_refusal c.args.policy.now ≡ none = check-passed _ _ c.in-Count.ensures in
-    let counted : c.in-Count.n ≡ rule_count key_size c.args.policy.now = check-count _ _ c.in-Count.ensures in
     c.refused-else-wide-number.ensures
-    ∙ said-other _ _ _ fine c.if-key-ne-KEY_SIZE.false (omega (arith, counted)) _ c.in-Rule.ensures _ _
-    refl (λ e. c.if-wide-number.false (c.wide.ensures ∙ e))
+    ∙ said-other _ _ _ (check-passed _ _ c.in-Count.ensures) c.if-key-ne-KEY_SIZE.false
+    (omega (arith, check-count _ _ c.in-Count.ensures)) _ c.in-Rule.ensures _ _ refl (λ e. c.if-wide-number.false (c.wide.ensures ∙ e))

@@ -1,9 +1,7 @@
 -- `policy::search::best` meets its contract: at each `return` the tests that led there say which answer it is. Assumes nothing.
-use mathlib.Core.Path.{◌≡◌, sym}
-use mathlib.Core.Option.{none}
+use mathlib.Core.Path.{sym}
 use borrow.Author.Tests.{eq-eqb, ne_eqb}
 use Rattle.checks.specs.Keys.{key_refusal}
-use Rattle.policy.specs.Refusals.{policy_refusal}
 use Rattle.policy.specs.Answers.{best_refusal}
 use Rattle.policy.proofs.CheckLaws.{check-refused, check-passed, passed-few}
 use Rattle.policy.specs.BestAnswers.{best_answer}
@@ -17,22 +15,18 @@ returns-in-Refused c =
 pub returns-then-key-ne-KEY_SIZE : goal.returns-then-key-ne-KEY_SIZE
 unfolding best_answer best_refusal key_refusal
 returns-then-key-ne-KEY_SIZE c =
-    let passed : policy_refusal c.args.policy.now ≡ none = check-passed _ _ (c.in_default.ensures) in
-    rw (c.at_no_place.ensures, passed, ne_eqb _ _ c.if-key-ne-KEY_SIZE.true)
+    rw (c.at_no_place.ensures, check-passed _ _ c.in_default.ensures, ne_eqb _ _ c.if-key-ne-KEY_SIZE.true)
 
 pub best_rule-requires : goal.best_rule-requires
 best_rule-requires c =
-    let passed : policy_refusal c.args.policy.now ≡ none = check-passed _ _ (c.in_default.ensures) in
-    (passed-few _ (passed), c.if-key-ne-KEY_SIZE.false)
+    (passed-few _ (check-passed _ _ c.in_default.ensures), c.if-key-ne-KEY_SIZE.false)
 
 pub returns-in-NoRule : goal.returns-in-NoRule
 unfolding best_answer best_refusal key_refusal
 returns-in-NoRule c =
-    let passed : policy_refusal c.args.policy.now ≡ none = check-passed _ _ (c.in_default.ensures) in
-    rw (passed, eq-eqb _ _ c.if-key-ne-KEY_SIZE.false, sym c.in-NoRule.ensures)
+    rw (check-passed _ _ c.in_default.ensures, eq-eqb _ _ c.if-key-ne-KEY_SIZE.false, sym c.in-NoRule.ensures)
 
 pub returns-in-Rule : goal.returns-in-Rule
 unfolding best_answer best_refusal key_refusal
 returns-in-Rule c =
-    let passed : policy_refusal c.args.policy.now ≡ none = check-passed _ _ (c.in_default.ensures) in
-    rw (passed, eq-eqb _ _ c.if-key-ne-KEY_SIZE.false, sym c.in-Rule.ensures)
+    rw (check-passed _ _ c.in_default.ensures, eq-eqb _ _ c.if-key-ne-KEY_SIZE.false, sym c.in-Rule.ensures)

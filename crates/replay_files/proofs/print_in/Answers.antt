@@ -1,4 +1,4 @@
--- `replay_files::print_in` is safe: what is written lies in the output. Assumes what std says of a write.
+-- `replay_files::print_in` meets its contract: what is written lies in the output. Assumes what std says of a write.
 use Rattle.lines.proofs.PutLaws.{counts}
 use Rattle.replay_files.proofs.print_in.Goals as goal
 

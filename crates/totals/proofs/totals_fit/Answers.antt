@@ -19,9 +19,19 @@ returns-then-t-gt-MOST_TOTAL-3 c =
 pub returns-then-t-gt-MOST_TOTAL-4 : goal.returns-then-t-gt-MOST_TOTAL-4
 unfolding totals_fit
 returns-then-t-gt-MOST_TOTAL-4 c =
-    rw (le-leb _ _ c.if-t-gt-MOST_TOTAL.false, le-leb _ _ c.if-t-gt-MOST_TOTAL-2.false, le-leb _ _ c.if-t-gt-MOST_TOTAL-3.false, lt-leb _ _ c.if-t-gt-MOST_TOTAL-4.true)
+    rw (
+      le-leb _ _ c.if-t-gt-MOST_TOTAL.false,
+      le-leb _ _ c.if-t-gt-MOST_TOTAL-2.false,
+      le-leb _ _ c.if-t-gt-MOST_TOTAL-3.false,
+      lt-leb _ _ c.if-t-gt-MOST_TOTAL-4.true,
+    )
 
 pub returns : goal.returns
 unfolding totals_fit
 returns c =
-    rw (le-leb _ _ c.if-t-gt-MOST_TOTAL.false, le-leb _ _ c.if-t-gt-MOST_TOTAL-2.false, le-leb _ _ c.if-t-gt-MOST_TOTAL-3.false, le-leb _ _ c.if-t-gt-MOST_TOTAL-4.false)
+    rw (
+      le-leb _ _ c.if-t-gt-MOST_TOTAL.false,
+      le-leb _ _ c.if-t-gt-MOST_TOTAL-2.false,
+      le-leb _ _ c.if-t-gt-MOST_TOTAL-3.false,
+      le-leb _ _ c.if-t-gt-MOST_TOTAL-4.false,
+    )

@@ -2,9 +2,14 @@
 use borrow.Author.Rules.{rules}
 use mathlib.Core.Path.{◌≡◌}
 use mathlib.Core.Option.{none, some}
+use mathlib.Core.List.{List}
+use Prim.Native.Nat.{ℕ, ◌+◌, ◌-◌, ◌≤◌}
 use native.Mathlib.Omega.{arith}
+use lib.ListN.{length, take, drop}
 use native.Mathlib.Nat.{add-sub_cancel_left}
 use Rattle.model.specs.Pattern.{first_stray}
+use Rattle.ternary.specs.Strays.{stray_of}
+use Rattle.ternary.specs.declared.bits.Stray.{Stray}
 use Rattle.ternary.proofs.StrayLaws.{of-clean, of-stray}
 use Rattle.buffers.specs.Parts.{part}
 use Rattle.ternary.specs.Sizes.{key_size}
@@ -12,19 +17,17 @@ use Rattle.buffers.proofs.PartLaws.{part_length}
 use Rattle.checks.proofs.FlawLaws.{stray-inside}
 use Rattle.checks.proofs.flaw.stray_flaw.Goals as goal
 
+-- the search over the rows that are lent is that over the parts
+told : {s : Stray} (value mask : ℕ) (r : List ℕ) → value + key_size ≤ length r
+    → (let row : ℕ → List ℕ = λ at. take (at + key_size - at) (drop at r) in s ≡ stray_of (first_stray (length (row value)) (row value) (row mask)))
+    → s ≡ stray_of (first_stray key_size (part key_size value r) (part key_size mask r))
+told value mask r inside is = rw (add-sub_cancel_left value key_size, add-sub_cancel_left mask key_size, part_length key_size value r inside) at is
+
 -- a stray bit lies inside the row
 found : (c : goal.In-At)
     → let a = c.args in
     first_stray key_size (part key_size a.value a.r.now) (part key_size a.mask a.r.now) ≡ some c.in-At.i
-found c =
-    let a = c.args in
-    of-stray _ _
-    (rw (
-      add-sub_cancel_left a.value key_size,
-      add-sub_cancel_left a.mask key_size,
-      part_length key_size a.value a.r.now (omega arith),
-    )
-    at c.in-At.ensures)
+found c = of-stray _ _ (told c.args.value c.args.mask c.args.r.now (omega arith) c.in-At.ensures)
 
 pub overflow_add-result : goal.overflow_add-result
 overflow_add-result c = let l = stray-inside key_size _ _ _ (found c) in search rules
@@ -33,15 +36,7 @@ overflow_add-result c = let l = stray-inside key_size _ _ _ (found c) in search 
 missed : (c : goal.In-Clean)
     → let a = c.args in
     first_stray key_size (part key_size a.value a.r.now) (part key_size a.mask a.r.now) ≡ none
-missed c =
-    let a = c.args in
-    of-clean _
-    (rw (
-      add-sub_cancel_left a.value key_size,
-      add-sub_cancel_left a.mask key_size,
-      part_length key_size a.value a.r.now (omega arith),
-    )
-    at c.in-Clean.ensures)
+missed c = of-clean _ (told c.args.value c.args.mask c.args.r.now (omega arith) c.in-Clean.ensures)
 
 pub returns-in-Clean : goal.returns-in-Clean
 returns-in-Clean c = rw (missed c)

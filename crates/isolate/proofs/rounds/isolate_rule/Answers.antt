@@ -7,9 +7,8 @@ use lib.ListN.{length, take}
 use Rattle.model.specs.Isolate.{separates}
 use Rattle.ternary.specs.Sizes.{key_size}
 use Rattle.records.specs.Layout.{most_rules}
-use Rattle.records.specs.Rules.{rule_count, rules as rules_of}
+use Rattle.records.specs.Rules.{rules as rules_of}
 use Rattle.records.proofs.RuleLaws.{rule-count}
-use Rattle.lists.specs.Numbers.{Under}
 use Rattle.isolate.specs.Columns.{Marks}
 use Rattle.isolate.proofs.AtHand.{at_first, at_next, weight_is}
 use Rattle.isolate.proofs.RoundsLaws.{scan-none, scan-taken, scan-kept, scan-chosen}
@@ -36,10 +35,7 @@ loop-p-init c = (scan-none _ _ (search rules), at_first _ _ _ _)
 pub column_of-column-requires : goal.column_of-column-requires
 column_of-column-requires c =
     -- the standing are rules of the policy
-    let under : Under (rule_count key_size c.args.policy.now) c.rounds.standing.items c.rounds.standing.count =
-    going-under _ _ _ _ _ _ _ _ _ _ c.rounds.invariant.1 c.rounds.invariant.2 _ (rule-count key_size _)
-    in
-    (c.requires.0, omega arith, under)
+    (c.requires.0, omega arith, going-under _ _ _ _ _ _ _ _ _ _ c.rounds.invariant.1 c.rounds.invariant.2 _ (rule-count key_size _))
 
 pub slice_bounds-marked-end : goal.slice_bounds-marked-end
 slice_bounds-marked-end c =
@@ -98,10 +94,7 @@ fix_bit-pattern-requires c = c.loop-p.invariant.0.within
 pub left-standing-requires : goal.left-standing-requires
 left-standing-requires c =
     -- the standing are rules of the policy
-    let under : Under (rule_count key_size c.args.policy.now) c.rounds.standing.items c.rounds.standing.count =
-    going-under _ _ _ _ _ _ _ _ _ _ c.rounds.invariant.1 c.rounds.invariant.2 _ (rule-count key_size _)
-    in
-    (c.requires.0, c.loop-p.invariant.0.within, under)
+    (c.requires.0, c.loop-p.invariant.0.within, going-under _ _ _ _ _ _ _ _ _ _ c.rounds.invariant.1 c.rounds.invariant.2 _ (rule-count key_size _))
 
 pub overflow_add-fixed : goal.overflow_add-fixed
 overflow_add-fixed c =

@@ -12,7 +12,9 @@ use Rattle.isolate.proofs.RoundsLaws.{Going}
 use Rattle.isolate.proofs.rounds.isolate_rule.Given as goal
 
 abbrev pub invariant-loop-p : goal.invariant-loop-p
-invariant-loop-p l = Scan (λ q. length (keep (separates (rules key_size l.policy) l.key l.number q) (take l.standing.count l.standing.items))) positions l.p l.best l.most
+invariant-loop-p l =
+    Scan (λ q. length (keep (separates (rules key_size l.policy) l.key l.number q) (take l.standing.count l.standing.items)))
+    positions l.p l.best l.most
     × AtHand (separates (rules key_size l.policy) l.key l.number) l.p (take l.standing.count l.standing.items) l.bytes l.count
 
 abbrev pub decreases-loop-p : goal.decreases-loop-p

@@ -9,7 +9,9 @@ returns-then-trace-ne0 c = rw (ne_eqb _ _ c.if-trace-ne0.true) c.refused.ensures
 
 pub returns-then-trace-gt-MOST_PACKETS : goal.returns-then-trace-gt-MOST_PACKETS
 unfolding trace_refusal
-returns-then-trace-gt-MOST_PACKETS c = rw (eq-eqb _ _ c.if-trace-ne0.false, lt-ltb _ _ c.if-trace-gt-MOST_PACKETS.true) c.refused-then-trace-gt-MOST_PACKETS.ensures
+returns-then-trace-gt-MOST_PACKETS c =
+    rw (eq-eqb _ _ c.if-trace-ne0.false, lt-ltb _ _ c.if-trace-gt-MOST_PACKETS.true)
+    c.refused-then-trace-gt-MOST_PACKETS.ensures
 
 pub returns : goal.returns
 unfolding trace_refusal
