@@ -1,7 +1,7 @@
 -- What the answer that isolates comes to with an output: each way out of the call. Assumes nothing.
 use mathlib.Core.Path.{◌≡◌, ap, ◌∙◌}
 use mathlib.Core.List.{List, ◌++◌}
-use mathlib.Core.Option.{Option, none, some}
+use Rattle.std.specs.Prelude.{Option, None, Some}
 use Prim.Native.Nat.{ℕ, ◌≤◌, ◌<◌}
 use native.Mathlib.Omega.{arith}
 use lib.ListN.{length}
@@ -22,20 +22,20 @@ use Rattle.c_answers.specs.Isolate.{pattern_size, pattern_refusal, refused_count
 use Rattle.c_answers.specs.declared.structs.WgIsolated.{WgIsolated}
 use Rattle.c_answers.specs.IsolateCalls.{isolated_in, IsolateCall}
 
-of-refused : (o : Option Refusal) (x : IsolatedRule) (r : Refusal) → (isolate_answer_of o x).verdict ≡ Refused r → o ≡ some r
-of-refused (some s) x r e = cc
-of-refused none x r e = let z : ◌≡◌ {A = ℕ} 0 1 = cc in absurd (omega arith)
+of-refused : (o : Option Refusal) (x : IsolatedRule) (r : Refusal) → (isolate_answer_of o x).verdict ≡ Refused r → o ≡ Some r
+of-refused (Some s) x r e = cc
+of-refused None x r e = let z : ◌≡◌ {A = ℕ} 0 1 = cc in absurd (omega arith)
 
 module _ (policy key : List ℕ) (number : ℕ) (a : IsolateAnswer) (e : a ≡ isolate_answer policy key number) where
   said-so : (s : Verdict) → a.verdict ≡ s → (isolate_answer policy key number).verdict ≡ s
   said-so s t = rw (← e) t
 
-  refused : (r : Refusal) → a.verdict ≡ Refused r → isolate_refusal policy key number ≡ some r
+  refused : (r : Refusal) → a.verdict ≡ Refused r → isolate_refusal policy key number ≡ Some r
   unfolding isolate_answer
   refused r t = of-refused (isolate_refusal policy key number) (isolated_in policy key number) r (said-so (Refused r) t)
 
   module _ (t : a.verdict ≡ Fine) where
-    free : isolate_refusal policy key number ≡ none
+    free : isolate_refusal policy key number ≡ None
     unfolding isolate_answer
     free = isolated-of (isolate_refusal policy key number) (isolated_in policy key number) (said-so Fine t)
 

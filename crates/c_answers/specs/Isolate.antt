@@ -1,6 +1,5 @@
 -- The numbers of the answer that isolates, with its pattern in an output. Assumes nothing.
-use Rattle.std.specs.Prelude.{not, List, ℕ, ◌+◌, ltb}
-use Rattle.std.proofs.Math.Option.{Option, none, some}
+use Rattle.std.specs.Prelude.{not, List, ℕ, ◌+◌, ltb, Option, None, Some}
 use Rattle.model.specs.Isolate.{Isolated}
 use Rattle.model.specs.Refusals.{short_output}
 use Rattle.ternary.specs.Sizes.{key_size}
@@ -16,7 +15,7 @@ pattern_size = key_size + key_size
 -- the call's own refusals; then 5, where the output has out_len bytes
 unfoldable pub pattern_refusal : List ℕ → List ℕ → ℕ → ℕ → Option Refusal
 pattern_refusal policy key number out_len =
-    or_else (isolate_refusal policy key number) (need (not (ltb out_len pattern_size)) short_output none)
+    or_else (isolate_refusal policy key number) (need (not (ltb out_len pattern_size)) short_output None)
 
 abbrev pub refused_counts : Refusal → WgIsolated
 refused_counts r = record { refusal = r.number; place = r.place; fixed = 0; wildcards = 0 }
@@ -26,5 +25,5 @@ isolated_counts fixed wildcards = record { refusal = 0; place = 0; fixed = fixed
 
 -- the refusal's, or the isolated rule's
 abbrev pub isolate_for_c : Option Refusal → Isolated → WgIsolated
-isolate_for_c (some r) x = refused_counts r
-isolate_for_c none x = isolated_counts x.fixed_bits x.wildcards_left
+isolate_for_c (Some r) x = refused_counts r
+isolate_for_c None x = isolated_counts x.fixed_bits x.wildcards_left

@@ -2,7 +2,7 @@
 use mathlib.Core.Path.{◌≡◌, refl, ap}
 use mathlib.Core.Bool.{true, false}
 use mathlib.Core.List.{List, [], ◌∷◌}
-use mathlib.Core.Option.{Option, none, some, map}
+use Rattle.std.specs.Prelude.{Option, None, Some, option_map}
 use mathlib.Core.Logic.{◌↔◌}
 use Prim.Native.Nat.{ℕ, ◌+◌, ◌*◌}
 use native.Mathlib.Omega.{arith}
@@ -19,31 +19,31 @@ use Rattle.checks.specs.Flaws.{rule_spares, trace_spares, write_spares, report_s
 use Rattle.checks.specs.declared.flaw.Flaw.{Flaw}
 use Rattle.checks.specs.declared.flaw.Flaw.TheVariants.{Clean, Spare, Stray}
 
-zeros_of : (ats c : List ℕ) → first_nonzero ats c ≡ none → Zeros ats c
+zeros_of : (ats c : List ℕ) → first_nonzero ats c ≡ None → Zeros ats c
 zeros_of [] c e = tt
 zeros_of (at ∷ ats) c e =
     by_cases (eqb (get_or c at 0) 0)
     (λ z. (eqb-true _ _ z, zeros_of ats c (rw z at e)))
-    (λ z. let n : some at ≡ none = rw z at e in let z : ◌≡◌ {A = ℕ} 0 1 = cc in absurd (omega arith))
+    (λ z. let n : Some at ≡ None = rw z at e in let z : ◌≡◌ {A = ℕ} 0 1 = cc in absurd (omega arith))
 
-of-zeros : (ats c : List ℕ) → Zeros ats c → first_nonzero ats c ≡ none
+of-zeros : (ats c : List ℕ) → Zeros ats c → first_nonzero ats c ≡ None
 of-zeros [] c h = refl
 of-zeros (at ∷ ats) c h = rw (eq-eqb _ _ h.0) (of-zeros ats c h.1)
 
 -- no flaw of either kind
-neither : (a b : Option ℕ) → flaw_of a b ≡ Clean → (a ≡ none) × (b ≡ none)
-neither (some at) b e = let z : ◌≡◌ {A = ℕ} 0 1 = cc in absurd (omega arith)
-neither none (some at) e = let z : ◌≡◌ {A = ℕ} 0 1 = cc in absurd (omega arith)
-neither none none e = (refl, refl)
+neither : (a b : Option ℕ) → flaw_of a b ≡ Clean → (a ≡ None) × (b ≡ None)
+neither (Some at) b e = let z : ◌≡◌ {A = ℕ} 0 1 = cc in absurd (omega arith)
+neither None (Some at) e = let z : ◌≡◌ {A = ℕ} 0 1 = cc in absurd (omega arith)
+neither None None e = (refl, refl)
 
-none-mapped : (f : ℕ → ℕ) (o : Option ℕ) → map f o ≡ none → o ≡ none
-none-mapped f none e = refl
-none-mapped f (some i) e = let z : ◌≡◌ {A = ℕ} 0 1 = cc in absurd (omega arith)
+none-mapped : (f : ℕ → ℕ) (o : Option ℕ) → option_map f o ≡ None → o ≡ None
+none-mapped f None e = refl
+none-mapped f (Some i) e = let z : ◌≡◌ {A = ℕ} 0 1 = cc in absurd (omega arith)
 
 -- a record with spare bytes alone
-spare-iff : (ats c : List ℕ) → (flaw_of (first_nonzero ats c) none ≡ Clean) ↔ Zeros ats c
+spare-iff : (ats c : List ℕ) → (flaw_of (first_nonzero ats c) None ≡ Clean) ↔ Zeros ats c
 spare-iff ats c =
-    (λ e. zeros_of ats c (neither (first_nonzero ats c) none e).0, λ h. ap (λ (o : Option ℕ). flaw_of o none) (of-zeros ats c h))
+    (λ e. zeros_of ats c (neither (first_nonzero ats c) None e).0, λ h. ap (λ (o : Option ℕ). flaw_of o None) (of-zeros ats c h))
 
 -- a record with a pattern besides
 pattern-iff : (w value mask : ℕ) (ats c : List ℕ)

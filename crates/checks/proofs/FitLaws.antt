@@ -2,7 +2,7 @@
 use mathlib.Core.Path.{◌≡◌}
 use mathlib.Core.Bool.{true, ◌&&◌}
 use mathlib.Core.List.{List}
-use mathlib.Core.Option.{none}
+use Rattle.std.specs.Prelude.{None}
 use mathlib.Core.Logic.{◌↔◌}
 use Prim.Native.Nat.{ℕ, ◌%◌}
 use native.Mathlib.Omega.{arith}
@@ -39,6 +39,6 @@ module _ (bs : List ℕ) where
       rw (eq-eqb _ _ ends, le-leb 1 _ h.some-there, le-leb _ _ h.few-there)
 
   -- not refused are exactly the buffers of 1 to 256 whole slots
-  pub slots-accepted : (slots_refusal bs ≡ none) ↔ WholeSlots bs
+  pub slots-accepted : (slots_refusal bs ≡ None) ↔ WholeSlots bs
   unfolding slots_refusal
-  slots-accepted = (λ e. fit-whole (need-none (slots_fit bs) bad_slots none e).0, λ h. rw (whole-fit h))
+  slots-accepted = (λ e. fit-whole (need-none (slots_fit bs) bad_slots None e).0, λ h. rw (whole-fit h))

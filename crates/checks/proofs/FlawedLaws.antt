@@ -2,7 +2,7 @@
 use mathlib.Core.Path.{◌≡◌, refl, sym, ap, ◌∙◌}
 use mathlib.Core.Bool.{Bool, true, false}
 use mathlib.Core.List.{List}
-use mathlib.Core.Option.{Option, none, some}
+use Rattle.std.specs.Prelude.{Option, None, Some}
 use mathlib.Core.Logic.{◌↔◌}
 use Prim.Native.Nat.{ℕ, ◌+◌, ◌*◌, ◌-◌, ◌≤◌, ◌<◌}
 use native.Mathlib.Nat.{add-sub_cancel_left}
@@ -56,9 +56,9 @@ module _ {g : List ℕ → Flaw} {size : ℕ} {bs : List ℕ} where
 
 -- ---- all records are clean
 
-all-clean-none : (f : ℕ → Flaw) (o : Option ℕ) → first_flaw_of f o ≡ AllClean → o ≡ none
-all-clean-none f none e = refl
-all-clean-none f (some i) e = let z : ◌≡◌ {A = ℕ} 0 1 = cc in absurd (omega arith)
+all-clean-none : (f : ℕ → Flaw) (o : Option ℕ) → first_flaw_of f o ≡ AllClean → o ≡ None
+all-clean-none f None e = refl
+all-clean-none f (Some i) e = let z : ◌≡◌ {A = ℕ} 0 1 = cc in absurd (omega arith)
 
 pub all-clean : (f : ℕ → Flaw) (n : ℕ) → (first_flawed f n ≡ AllClean) ↔ ((i : ℕ) → i < n → f i ≡ Clean)
 unfolding first_flawed

@@ -1,6 +1,5 @@
 -- The first record with a flaw. Assumes nothing.
-use Rattle.std.specs.Prelude.{not, List, ℕ, ◌/◌, ◌%◌, ltb, eqb, length}
-use Rattle.std.proofs.Math.Option.{Option, none, some}
+use Rattle.std.specs.Prelude.{not, List, ℕ, ◌/◌, ◌%◌, ltb, eqb, length, Option, None, Some}
 use Rattle.model.specs.Below.{first_below}
 use Rattle.buffers.specs.Parts.{chunk}
 use Rattle.records.specs.Layout.{rule_size, trace_size}
@@ -13,8 +12,8 @@ use Rattle.checks.specs.Refusals.{refusal, need}
 use Rattle.checks.specs.declared.refusal.Refusal.{Refusal}
 
 abbrev pub first_flaw_of : (ℕ → Flaw) → Option ℕ → FirstFlaw
-first_flaw_of flaw none = AllClean
-first_flaw_of flaw (some i) = Flawed i (flaw i)
+first_flaw_of flaw None = AllClean
+first_flaw_of flaw (Some i) = Flawed i (flaw i)
 
 -- of n records, with the flaw of each
 unfoldable pub first_flawed : (ℕ → Flaw) → ℕ → FirstFlaw
@@ -29,8 +28,8 @@ trace_flaw_at w bs i = trace_flaw w (chunk (trace_size w) bs i)
 
 -- 3, with the place of the first flawed record
 abbrev pub flaw_refusal : FirstFlaw → Option Refusal
-flaw_refusal AllClean = none
-flaw_refusal (Flawed i flaw) = some (refusal bad_record i)
+flaw_refusal AllClean = None
+flaw_refusal (Flawed i flaw) = Some (refusal bad_record i)
 
 -- 1, 2, 3 of records of that size, of which there may be so many, with the flaw of each
 abbrev pub records_refusal : ℕ → ℕ → (ℕ → Flaw) → List ℕ → Option Refusal

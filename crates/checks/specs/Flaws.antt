@@ -1,6 +1,5 @@
 -- What is wrong with a record: a spare byte that is not zero, or a value bit under a wildcard. Assumes nothing.
-use Rattle.std.specs.Prelude.{◌≡◌, Bool, true, false, cond, List, [], ◌∷◌, ℕ, zero, suc, ◌+◌, eqb, get_or}
-use Rattle.std.proofs.Math.Option.{Option, none, some, map}
+use Rattle.std.specs.Prelude.{◌≡◌, Bool, true, false, cond, List, [], ◌∷◌, ℕ, zero, suc, ◌+◌, eqb, get_or, Option, None, Some, option_map}
 use Rattle.model.specs.Pattern.{first_stray}
 use Rattle.buffers.specs.Parts.{part}
 use Rattle.records.specs.Layout.{rule_value, rule_mask, rule_spare, trace_spare, write_zero, write_value, write_mask, write_spare, report_zero}
@@ -9,8 +8,8 @@ use Rattle.checks.specs.declared.flaw.Flaw.TheVariants.{Clean, Spare, Stray}
 
 -- the first of these bytes of the record that is not zero
 abbrev pub first_nonzero : List ℕ → List ℕ → Option ℕ
-first_nonzero [] c = none
-first_nonzero (at ∷ ats) c = let later = first_nonzero ats c in cond (eqb (get_or c at 0) 0) later (some at)
+first_nonzero [] c = None
+first_nonzero (at ∷ ats) c = let later = first_nonzero ats c in cond (eqb (get_or c at 0) 0) later (Some at)
 
 -- the n bytes from `at` on
 abbrev pub offsets : ℕ → ℕ → List ℕ
@@ -24,13 +23,13 @@ Zeros (at ∷ ats) c = (get_or c at 0 ≡ 0) × Zeros ats c
 
 -- the lowest byte of the record's value that has a bit under a wildcard, counted from the record's start
 abbrev pub stray_byte_in : ℕ → ℕ → ℕ → List ℕ → Option ℕ
-stray_byte_in w value mask c = map (λ i. value + i) (first_stray w (part w value c) (part w mask c))
+stray_byte_in w value mask c = option_map (λ i. value + i) (first_stray w (part w value c) (part w mask c))
 
 -- the flaw that is told: a spare byte before a value bit
 abbrev pub flaw_of : Option ℕ → Option ℕ → Flaw
-flaw_of (some at) stray = Spare at
-flaw_of none (some at) = Stray at
-flaw_of none none = Clean
+flaw_of (Some at) stray = Spare at
+flaw_of None (Some at) = Stray at
+flaw_of None None = Clean
 
 -- of two flaws the first
 abbrev pub first_told : Flaw → Flaw → Flaw
@@ -58,13 +57,13 @@ unfoldable pub rule_flaw : ℕ → List ℕ → Flaw
 rule_flaw w c = flaw_of (first_nonzero (rule_spares w) c) (stray_byte_in w rule_value (rule_mask w) c)
 
 unfoldable pub trace_flaw : ℕ → List ℕ → Flaw
-trace_flaw w c = flaw_of (first_nonzero (trace_spares w) c) none
+trace_flaw w c = flaw_of (first_nonzero (trace_spares w) c) None
 
 unfoldable pub write_flaw : ℕ → List ℕ → Flaw
 write_flaw w c = flaw_of (first_nonzero (write_spares w) c) (stray_byte_in w write_value (write_mask w) c)
 
 unfoldable pub report_flaw : List ℕ → Flaw
-report_flaw c = flaw_of (first_nonzero report_spares c) none
+report_flaw c = flaw_of (first_nonzero report_spares c) None
 
 -- ---- whether it is a flaw
 

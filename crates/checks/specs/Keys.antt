@@ -1,6 +1,5 @@
 -- How a key is refused. Assumes nothing.
-use Rattle.std.specs.Prelude.{List, ℕ, eqb, length}
-use Rattle.std.proofs.Math.Option.{Option, none}
+use Rattle.std.specs.Prelude.{List, ℕ, eqb, length, Option, None}
 use Rattle.model.specs.Refusals.{ragged}
 use Rattle.ternary.specs.Sizes.{key_size}
 use Rattle.checks.specs.Refusals.{need}
@@ -8,4 +7,4 @@ use Rattle.checks.specs.declared.refusal.Refusal.{Refusal}
 
 -- key 1
 unfoldable pub key_refusal : List ℕ → Option Refusal
-key_refusal key = need (eqb (length key) key_size) ragged none
+key_refusal key = need (eqb (length key) key_size) ragged None

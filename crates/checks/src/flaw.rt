@@ -1,6 +1,5 @@
 // Flaws: a record's spare byte that is not zero, or a value bit of it under a wildcard.
 ghost use Rattle.std.specs.Prelude.{◌≡◌, ◌+◌, ◌-◌, ◌≤◌, length};
-ghost use Rattle.std.proofs.Math.Option.{none};
 ghost use Rattle.ternary.specs.Sizes.{key_size};
 ghost use Rattle.records.specs.Layout.{rule_size, trace_size, write_size, report_size};
 ghost use Rattle.checks.specs.Flaws.{first_told, flaw_of, first_nonzero, offsets, stray_byte_in, rule_flaw, trace_flaw, write_flaw, report_flaw};
@@ -18,7 +17,7 @@ pub enum Flaw {
 // The value bits of a record under its wildcards, as a flaw: rows at `value` and at `mask`.
 fn stray_flaw(r: &[u8], value: usize, mask: usize) -> Flaw
     requires { (value + key_size ≤ length r.now) × (mask + key_size ≤ length r.now) }
-    ensures { result ≡ flaw_of none (stray_byte_in key_size value mask r.now) }
+    ensures { result ≡ flaw_of None (stray_byte_in key_size value mask r.now) }
 {
     match ternary::bits::first_stray(
         &r[value..value + layout::KEY_SIZE],
@@ -32,7 +31,7 @@ fn stray_flaw(r: &[u8], value: usize, mask: usize) -> Flaw
 // The bytes from `at` up to `end`, which must be zero, as a flaw: the first that is not.
 fn spare_flaw(r: &[u8], at: usize, end: usize) -> Flaw
     requires { end ≤ length r.now }
-    ensures { result ≡ flaw_of (first_nonzero (offsets at (end - at)) r.now) none }
+    ensures { result ≡ flaw_of (first_nonzero (offsets at (end - at)) r.now) None }
 {
     let mut i = at;
     while i < end {

@@ -1,6 +1,5 @@
 // Refusals: the number that a refused call carries, and the place.
 ghost use Rattle.std.specs.Prelude.{◌≡◌};
-ghost use Rattle.std.proofs.Math.Option.{some};
 ghost use Rattle.checks.specs.Refusals.{refusal, verdict_of};
 
 // `place` is the first record with a flaw where the number is BAD_RECORD, and 0 in every other case.
@@ -60,7 +59,7 @@ pub fn at_no_place(number: u32) -> Refusal
 
 // What is lent is refused with that number, at no place.
 pub fn refused(number: u32) -> Verdict
-    ensures { result ≡ verdict_of (some (refusal number 0)) }
+    ensures { result ≡ verdict_of (Some (refusal number 0)) }
 {
     Verdict::Refused(at_no_place(number))
 }

@@ -2,7 +2,7 @@
 use Prim.Native.Nat.{ℕ, ◌≤◌, ◌<◌}
 use mathlib.Core.Path.{◌≡◌, sym, ◌∙◌}
 use mathlib.Core.List.{List}
-use mathlib.Core.Option.{none, some}
+use Rattle.std.specs.Prelude.{None, Some}
 use native.Mathlib.Omega.{arith}
 use lib.ListN.{length, take}
 use borrow.Author.Tests.{lt-ltb, le-ltb}
@@ -30,7 +30,7 @@ use Rattle.cover.specs.Answers.{cover_list, cover_refusal, Covered}
 
 -- a policy that is not refused has n rules
 pub record Taken (policy : List ℕ) (n : ℕ) : Type 0 where
-  pub fine : policy_refusal policy ≡ none
+  pub fine : policy_refusal policy ≡ None
   pub counted : n ≡ rule_count key_size policy
   pub few : rule_count key_size policy ≤ most_rules
 
@@ -50,7 +50,7 @@ cover-few policy number is =
 -- ---- each way out
 
 module _ (policy : List ℕ) (number : ℕ) (out : List ℕ) where
-  refused_as : {r : Refusal} → cover_refusal policy number (length out) ≡ some r → Covered policy number out (Refused r) out
+  refused_as : {r : Refusal} → cover_refusal policy number (length out) ≡ Some r → Covered policy number out (Refused r) out
   refused_as e = record { answer = rw e; out-after = rw e }
 
   pub refused-policy : {r : Refusal} {a : CountAnswer} → a ≡ check_answer policy → a ≡ Bad r → Covered policy number out (Refused r) out

@@ -1,6 +1,5 @@
 -- What the cover list's call answers, and what it leaves in the output. Assumes nothing.
-use Rattle.std.specs.Prelude.{◌≡◌, List, ℕ, ltb, length}
-use Rattle.std.proofs.Math.Option.{Option}
+use Rattle.std.specs.Prelude.{◌≡◌, List, ℕ, ltb, length, Option}
 use Rattle.model.specs.Policy.{dependents}
 use Rattle.model.specs.Refusals.{no_such_rule}
 use Rattle.ternary.specs.Sizes.{key_size, positions}

@@ -4,10 +4,11 @@ use mathlib.Core.Logic.{inl, inr}
 use mathlib.Core.Bool.{Bool, true, false}
 use mathlib.Core.List.Memᴰ
 use mathlib.Core.List.{List, [], ◌∷◌, Memᴰ}
-use mathlib.Core.Option.{Option, none, some}
+use Rattle.std.specs.Prelude.{Option, None, Some}
 use Prim.Native.Nat.{ℕ, zero, suc, ◌≤◌, ◌<◌}
 use native.Mathlib.Omega.{arith}
-use lib.ListN.{set, replicate, length-replicate, get_elem?}
+use lib.ListN.{set, replicate, length-replicate}
+use Rattle.std.specs.Prelude.{slice_get}
 use lib.Seq.{get_or-set_same}
 use borrow.Author.Tests.{eqb-true, ltb-true, ltb-false}
 use Rattle.ends.specs.Records.{Write, Report, entry_in, written, report_for, cleared, slot_at}
@@ -23,7 +24,7 @@ use Rattle.ends.proofs.Protocol.{behind}
 use Rattle.ends.proofs.Invariant.{Good, GoodWorld, again-good, in_table, mark-good, entry-good, report-good, table-good}
 
 -- a message that arrives was given
-pub arrived {ℓ} : {A : Type ℓ} (l : List A) (j : ℕ) (x : A) → get_elem? l j ≡ some x → Memᴰ x l
+pub arrived : {A : Type 0} (l : List A) (j : ℕ) (x : A) → slice_get l j ≡ Some x → Memᴰ x l
 arrived [] j x e = let z : ◌≡◌ {A = ℕ} 0 1 = cc in absurd (omega arith)
 arrived (a ∷ l) zero x e = let q : x ≡ a = cc in Memᴰ.head q
 arrived (a ∷ l) (suc j) x e = Memᴰ.tail (arrived l j x e)
@@ -34,10 +35,10 @@ module _ (n : ℕ) (p : PolicyView) (sound : Sound n p) (width slots : ℕ) (som
   module _ (a : World) (g : GoodWorld n p width slots a) where
     miss-good : (key : Key) (b f : Option ℕ) (u : Bool) (slot : ℕ) → p.best key ≡ b → first_for n a.keeper key ≡ f → slot < slots
         → GoodWorld n p width slots (keeper_misses a (miss_of b f u slot (next_entry p a.keeper key)))
-    miss-good key none f u slot e q h = g
-    miss-good key (some c) (some i) u slot e q h = again-good g i (found n a.keeper key i q).live
-    miss-good key (some c) none true slot e q h = g
-    miss-good key (some c) none false slot e q h =
+    miss-good key None f u slot e q h = g
+    miss-good key (Some c) (Some i) u slot e q h = again-good g i (found n a.keeper key i q).live
+    miss-good key (Some c) None true slot e q h = g
+    miss-good key (Some c) None false slot e q h =
         entry-good g slot (next_entry p a.keeper key c)
         (record { inside = h; clean = sound.clean key c e; rule = sound.only key c e; action = refl })
         (omega arith)
@@ -70,8 +71,8 @@ module _ (n : ℕ) (p : PolicyView) (sound : Sound n p) (width slots : ℕ) (som
 
     packet-good : (key : Key) (f : Option ℕ) → first_for n a.table key ≡ f
         → Good n p width slots a.keeper (counted_at a.table f) a.writes (sent (hit_report (hit_at a.table f)) a.reports)
-    packet-good key none e = g
-    packet-good key (some i) e =
+    packet-good key None e = g
+    packet-good key (Some i) e =
         report-good (table-good g i (counted (slot_at a.table i)) inside (g.inv.table-held i) (omega arith)) _ inside hit.live
         (omega (arith, ap (λ s. s.sequence) (get_or-set_same a.table i (counted (slot_at a.table i)) (cleared 0) hit.inside)))
       where
@@ -82,15 +83,15 @@ module _ (n : ℕ) (p : PolicyView) (sound : Sound n p) (width slots : ℕ) (som
         inside = omega (arith, hit.inside, g.table_size)
 
     unless-good : (o : Option ℕ) (b : World) → GoodWorld n p width slots b → GoodWorld n p width slots (unless o a b)
-    unless-good (some refusal) b h = g
-    unless-good none b h = h
+    unless-good (Some refusal) b h = g
+    unless-good None b h = h
 
     -- a message that was asked for, if there is one
-    delivered : {A : Type 0} (l : List A) (deliver : Option A → World) (j : ℕ) (o : Option A) → get_elem? l j ≡ o
-        → GoodWorld n p width slots (deliver none) → ((x : A) → Memᴰ x l → GoodWorld n p width slots (deliver (some x)))
+    delivered : {A : Type 0} (l : List A) (deliver : Option A → World) (j : ℕ) (o : Option A) → slice_get l j ≡ o
+        → GoodWorld n p width slots (deliver None) → ((x : A) → Memᴰ x l → GoodWorld n p width slots (deliver (Some x)))
         → GoodWorld n p width slots (deliver o)
-    delivered l deliver j none e absent arrives = absent
-    delivered l deliver j (some x) e absent arrives = arrives x (arrived l j x e)
+    delivered l deliver j None e absent arrives = absent
+    delivered l deliver j (Some x) e absent arrives = arrives x (arrived l j x e)
 
     pub step-good : (e : Event) → GoodWorld n p width slots (step n p a e)
     unfolding step on_miss after_lookup lookup
@@ -98,10 +99,10 @@ module _ (n : ℕ) (p : PolicyView) (sound : Sound n p) (width slots : ℕ) (som
         miss-good key (p.best key) (first_for n a.keeper key) _ (slot_for_entry a.keeper) refl refl
         (let r = slot-for-entry-lt a.keeper (omega (arith, g.keeper_size)) in omega (arith, g.keeper_size))
     step-good (write_arrives j) =
-        delivered a.writes (deliver_write n a) j (get_elem? a.writes j) refl g
+        delivered a.writes (deliver_write n a) j (slice_get a.writes j) refl g
         (λ x given. unless-good (write_refusal n a.table x) (table_takes a x) (write-good x given))
     step-good (report_arrives j) =
-        delivered a.reports (deliver_report a) j (get_elem? a.reports j) refl g
+        delivered a.reports (deliver_report a) j (slice_get a.reports j) refl g
         (λ x given. unless-good (report_refusal a.keeper x) (keeper_takes a x) (keeper-good x given))
     step-good (packet key) = packet-good key (first_for n a.table key) refl
     step-good refused = g

@@ -3,7 +3,7 @@ use mathlib.Core.Path.{◌≡◌, refl, ap}
 use mathlib.Core.Bool.{Bool, true, false}
 use mathlib.Core.List.{List}
 use mathlib.Core.Logic.{inl, inr}
-use mathlib.Core.Option.{Option, none, some}
+use Rattle.std.specs.Prelude.{Option, None, Some}
 use Prim.Native.Nat.{ℕ, ◌≤◌, ◌<◌}
 use native.Mathlib.Omega.{arith}
 use lib.Dec.{ltb}
@@ -30,11 +30,11 @@ report-but k r inside live =
     (by_cases (ltb (slot_at k r.slot).sequence r.sequence) (λ e. rw e (inr refl)) (λ e. rw e (inl refl)))
 
 -- a miss that gives a write again found its slot
-again-found : (b f : Option ℕ) (u : Bool) (slot : ℕ) (next : ℕ → Entry) (i : ℕ) → miss_of b f u slot next ≡ again i → f ≡ some i
-again-found none f u slot next i q = cc
-again-found (some r) (some j) u slot next i q = cc
-again-found (some r) none true slot next i q = cc
-again-found (some r) none false slot next i q = cc
+again-found : (b f : Option ℕ) (u : Bool) (slot : ℕ) (next : ℕ → Entry) (i : ℕ) → miss_of b f u slot next ≡ again i → f ≡ Some i
+again-found None f u slot next i q = cc
+again-found (Some r) (Some j) u slot next i q = cc
+again-found (Some r) None true slot next i q = cc
+again-found (Some r) None false slot next i q = cc
 
 same_length : (k : List Slot) (m : Miss) → length (miss_keeper k m) ≡ length k
 same_length k no_rule = refl
@@ -44,12 +44,12 @@ same_length k (used_up r) = refl
 
 module _ (n : ℕ) (p : PolicyView) (sound : Sound n p) (k t : List Slot) (equal : length k ≡ length t) (one : 1 ≤ length t) (key : Key) where
   new-taken : (b f : Option ℕ) (u : Bool) → p.best key ≡ b
-      → (i : ℕ) (x : Entry) → miss_of b f u (slot_for_entry k) (next_entry p k key) ≡ new_entry i x → write_refusal n t (write_for i x) ≡ none
+      → (i : ℕ) (x : Entry) → miss_of b f u (slot_for_entry k) (next_entry p k key) ≡ new_entry i x → write_refusal n t (write_for i x) ≡ None
   unfolding write_refusal
-  new-taken none f u e i x q = cc
-  new-taken (some r) (some j) u e i x q = cc
-  new-taken (some r) none true e i x q = cc
-  new-taken (some r) none false e i x q =
+  new-taken None f u e i x q = cc
+  new-taken (Some r) (Some j) u e i x q = cc
+  new-taken (Some r) None true e i x q = cc
+  new-taken (Some r) None false e i x q =
       let slot : i ≡ slot_for_entry k = cc in
       let entry : x ≡ next_entry p k key r = cc in
       rw (
@@ -60,7 +60,7 @@ module _ (n : ℕ) (p : PolicyView) (sound : Sound n p) (k t : List Slot) (equal
         ne_eqb (next_entry p k key r).sequence 0 (omega arith),
       )
 
-  resent-but : (i : ℕ) → first_for n k key ≡ some i → NoneBut bad_record (write_refusal n t (write_for i (entry_at k i)))
+  resent-but : (i : ℕ) → first_for n k key ≡ Some i → NoneBut bad_record (write_refusal n t (write_for i (entry_at k i)))
   unfolding write_refusal
   resent-but i e =
       let s = found n k key i e in
@@ -68,7 +68,7 @@ module _ (n : ℕ) (p : PolicyView) (sound : Sound n p) (k t : List Slot) (equal
       (λ c. rw (c, lt-leb (length t) i (omega (arith, s.inside)), ne_eqb (slot_at k i).sequence 0 (omega (arith, s.live))) (inl refl))
       (λ c. rw c (inr refl))
 
-  answer-but : (m : Miss) (x : Write) → write_refusal n t x ≡ none → NoneBut report_ahead (report_refusal (miss_keeper k m) (write_report t x))
+  answer-but : (m : Miss) (x : Write) → write_refusal n t x ≡ None → NoneBut report_ahead (report_refusal (miss_keeper k m) (write_report t x))
   unfolding write_report after_write
   answer-but m x taken =
       let is = write-taken n t x taken in

@@ -4,7 +4,7 @@ use mathlib.Core.Logic.{◌⊎◌, inl, inr}
 use mathlib.Core.Bool.{true}
 use mathlib.Core.List.Memᴰ
 use mathlib.Core.List.{List, ◌∷◌, Memᴰ}
-use mathlib.Core.Option.{some}
+use Rattle.std.specs.Prelude.{Some}
 use Prim.Native.Nat.{ℕ, ◌≤◌, ◌<◌}
 use native.Mathlib.Omega.{arith}
 use lib.ListN.{length, set, replicate, length-set}
@@ -23,7 +23,7 @@ use Rattle.ends.proofs.Protocol.{Held, held_more, Inv, New, keeper-given, keeper
 pub record Right (n : ℕ) (p : PolicyView) (slots : ℕ) (i : ℕ) (e : Entry) : Type 0 where
   pub inside : i < slots
   pub clean : canonical n e.value e.mask ≡ true
-  pub rule : (key : Key) → matches n e.value e.mask key ≡ true → p.best key ≡ some e.rule
+  pub rule : (key : Key) → matches n e.value e.mask key ≡ true → p.best key ≡ Some e.rule
   pub action : e.action ≡ p.action_of e.rule
 
 abbrev pub stamp : Entry → ℕ

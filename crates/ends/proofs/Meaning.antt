@@ -3,7 +3,7 @@ use mathlib.Core.Path.{◌≡◌, refl, sym, ◌∙◌}
 use mathlib.Core.Logic.{◌≢◌, ◌⊎◌, inl, inr, ⊎_swap}
 use mathlib.Core.Bool.{Bool, true, false}
 use mathlib.Core.List.{List, [], Memᴰ}
-use mathlib.Core.Option.{Option, none, some, map}
+use Rattle.std.specs.Prelude.{Option, None, Some, option_map}
 use Prim.Native.Nat.{ℕ, ◌<◌}
 use native.Mathlib.Decide.{ℕ_discrete}
 use native.Mathlib.Omega.{arith}
@@ -39,7 +39,7 @@ module _ {n : ℕ} {p : PolicyView} {width slots : ℕ} {k t : List Slot} {ws : 
       go (yes e) = inr (same g.inv i e)
       go (no d) = inl (elem-list (λ j. is_open (slot_at k j)) (length k) i ∙ both (lt-ltb i (length k) (live_inside k i (live d))) (opened d))
 
-  writes-taken : (x : Write) → Memᴰ x ws → write_refusal n t x ≡ none
+  writes-taken : (x : Write) → Memᴰ x ws → write_refusal n t x ≡ None
   unfolding write_refusal
   writes-taken x m =
       let right = g.inv.given-right x.slot (entry_in x) m in
@@ -49,7 +49,7 @@ module _ {n : ℕ} {p : PolicyView} {width slots : ℕ} {k t : List Slot} {ws : 
         ne_eqb x.sequence 0 (omega (arith, g.inv.given-live x.slot (entry_in x) m)),
       )
 
-  reports-taken : (x : Report) → Memᴰ x rs → report_refusal k x ≡ none
+  reports-taken : (x : Report) → Memᴰ x rs → report_refusal k x ≡ None
   unfolding report_refusal
   reports-taken x m =
       let l = g.reports_live x m in
@@ -61,29 +61,29 @@ module _ {n : ℕ} {p : PolicyView} {width slots : ℕ} {k t : List Slot} {ws : 
       )
 
   told-right : (key : Key) (b f : Option ℕ) (u : Bool) (slot : ℕ) → p.best key ≡ b → first_for n k key ≡ f
-      → miss_told p k (miss_of b f u slot (next_entry p k key)) ≡ map (λ m. record { rule = m; action = p.action_of m }) b
-  told-right key none f u slot e q = refl
-  told-right key (some c) (some i) u slot e q =
+      → miss_told p k (miss_of b f u slot (next_entry p k key)) ≡ option_map (λ m. record { rule = m; action = p.action_of m }) b
+  told-right key None f u slot e q = refl
+  told-right key (Some c) (Some i) u slot e q =
       let s = found n k key i q in
       let r = keeper-right g.inv i s.live in
-      let b : p.best key ≡ some (slot_at k i).rule = r.rule key s.fits in
+      let b : p.best key ≡ Some (slot_at k i).rule = r.rule key s.fits in
       let a : (slot_at k i).action ≡ p.action_of (slot_at k i).rule = r.action in
       let d : (slot_at k i).rule ≡ c = cc in
       rw (a, d)
-  told-right key (some c) none true slot e q = refl
-  told-right key (some c) none false slot e q = refl
+  told-right key (Some c) None true slot e q = refl
+  told-right key (Some c) None false slot e q = refl
 
   -- a hit names the best rule and its action
-  hit-right : (key : Key) (h : Hit) → lookup n t key ≡ some h → (p.best key ≡ some h.rule) × (h.action ≡ p.action_of h.rule)
+  hit-right : (key : Key) (h : Hit) → lookup n t key ≡ Some h → (p.best key ≡ Some h.rule) × (h.action ≡ p.action_of h.rule)
   unfolding lookup
   hit-right key h e = go (first_for n t key) refl e
     where
-      go : (f : Option ℕ) → first_for n t key ≡ f → hit_at t f ≡ some h → (p.best key ≡ some h.rule) × (h.action ≡ p.action_of h.rule)
-      go none q e = none-some e
-      go (some i) q e =
+      go : (f : Option ℕ) → first_for n t key ≡ f → hit_at t f ≡ Some h → (p.best key ≡ Some h.rule) × (h.action ≡ p.action_of h.rule)
+      go None q e = none-some e
+      go (Some i) q e =
           let s = found n t key i q in
           let r = table-right g.inv i s.live in
-          let b : p.best key ≡ some (slot_at t i).rule = r.rule key s.fits in
+          let b : p.best key ≡ Some (slot_at t i).rule = r.rule key s.fits in
           let a : (slot_at t i).action ≡ p.action_of (slot_at t i).rule = r.action in
           (cc, cc)
 

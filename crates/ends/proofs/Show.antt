@@ -1,7 +1,7 @@
 -- Which record is shown: just the one that decides. Assumes nothing.
 use mathlib.Core.Path.{◌≡◌, refl}
 use mathlib.Core.List.{List}
-use mathlib.Core.Option.{Option, none, some}
+use Rattle.std.specs.Prelude.{Option, None, Some}
 use Prim.Native.Nat.{ℕ}
 use Rattle.model.specs.Policy.{Rule, best}
 use Rattle.ends.specs.Records.{Slot}
@@ -9,20 +9,20 @@ use Rattle.ends.specs.Ends.{Key, first_for}
 use Rattle.ends.specs.Show.{slot_shown, rule_shown, nothing_shown, shown_by, shown, ShownFor}
 use Rattle.ends.proofs.Slots.{first-iff, first-none-iff}
 
-by-slot : (f b : Option ℕ) (i : ℕ) → shown_by f b ≡ slot_shown i → f ≡ some i
-by-slot (some j) b i e = cc
-by-slot none (some r) i e = cc
-by-slot none none i e = cc
+by-slot : (f b : Option ℕ) (i : ℕ) → shown_by f b ≡ slot_shown i → f ≡ Some i
+by-slot (Some j) b i e = cc
+by-slot None (Some r) i e = cc
+by-slot None None i e = cc
 
-by-rule : (f b : Option ℕ) (r : ℕ) → shown_by f b ≡ rule_shown r → (f ≡ none) × (b ≡ some r)
-by-rule (some j) b r e = (cc, cc)
-by-rule none (some q) r e = (refl, cc)
-by-rule none none r e = (refl, cc)
+by-rule : (f b : Option ℕ) (r : ℕ) → shown_by f b ≡ rule_shown r → (f ≡ None) × (b ≡ Some r)
+by-rule (Some j) b r e = (cc, cc)
+by-rule None (Some q) r e = (refl, cc)
+by-rule None None r e = (refl, cc)
 
-by-neither : (f b : Option ℕ) → shown_by f b ≡ nothing_shown → (f ≡ none) × (b ≡ none)
-by-neither (some j) b e = (cc, cc)
-by-neither none (some r) e = (refl, cc)
-by-neither none none e = (refl, refl)
+by-neither : (f b : Option ℕ) → shown_by f b ≡ nothing_shown → (f ≡ None) × (b ≡ None)
+by-neither (Some j) b e = (cc, cc)
+by-neither None (Some r) e = (refl, cc)
+by-neither None None e = (refl, refl)
 
 pub shown-for : (n : ℕ) (pol : List Rule) (t : List Slot) (key : Key) → ShownFor n pol t key
 unfolding shown

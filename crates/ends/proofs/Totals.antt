@@ -3,7 +3,7 @@
 use mathlib.Core.Path.{◌≡◌, refl, sym, ◌∙◌, ap}
 use mathlib.Core.Bool.{Bool, cond}
 use mathlib.Core.List.{List, [], ◌∷◌, ◌++◌, map, flatten}
-use mathlib.Core.Option.{Option, none, some}
+use Rattle.std.specs.Prelude.{Option, None, Some}
 use Prim.Native.Nat.{ℕ, suc, ◌+◌, ◌≤◌}
 use native.Mathlib.Nat.{add_assoc, zero-add, add-zero}
 use native.Mathlib.Omega.{arith}
@@ -76,8 +76,8 @@ cut-law n p e t xs ys =
 
 -- an outcome of a run is one of 0 to 5
 known : (n : ℕ) (p : PolicyView) (k t : List Slot) (key : Key) (f : Option ℕ) → (packet_outcome n p k t key f).outcome ≤ 5
-known n p k t key (some i) = omega arith
-known n p k t key none = miss-known (on_miss n p k key)
+known n p k t key (Some i) = omega arith
+known n p k t key None = miss-known (on_miss n p k key)
   where
     miss-known : (m : Miss) → (miss_outcome p k m).outcome ≤ 5
     miss-known no_rule = omega arith

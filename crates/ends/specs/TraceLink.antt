@@ -1,6 +1,5 @@
 -- A trace run is one of the sequences of events that demand 3 speaks of, and what an end can refuse within it. Assumes nothing.
-use Rattle.std.specs.Prelude.{◌≡◌, List, ◌++◌, ◌⊎◌, ℕ, ◌*◌, ◌≤◌, length}
-use Rattle.std.proofs.Math.Option.{Option, none, some}
+use Rattle.std.specs.Prelude.{◌≡◌, List, ◌++◌, ◌⊎◌, ℕ, ◌*◌, ◌≤◌, length, Option, None, Some}
 use Rattle.model.specs.Policy.{Rule, Accepted}
 use Rattle.ends.specs.Records.{Entry, Write, write_for, report_for, slot_at, entry_at}
 use Rattle.ends.specs.Ends.{Key, PolicyView, by_policy, first_for, counted, again, new_entry, on_miss, miss_keeper, miss_write}
@@ -29,10 +28,10 @@ KeptByRun = (w most : ℕ) (pol : List Rule) → Accepted w most pol → (slots 
 
 -- from such ends neither end refuses within the run: at no packet the report of a hit, nor a miss's write, nor that write's report
 pub record NoInnerRefusal (n : ℕ) (p : PolicyView) (e : Ends) (key : Key) : Type 0 where
-  pub hit : (i : ℕ) → first_for n e.table key ≡ some i → report_refusal e.keeper (report_for i (counted (slot_at e.table i))) ≡ none
-  pub write : (x : Write) → miss_write e.keeper (on_miss n p e.keeper key) ≡ some x → write_refusal n e.table x ≡ none
-  pub answer : (x : Write) → miss_write e.keeper (on_miss n p e.keeper key) ≡ some x
-      → report_refusal (miss_keeper e.keeper (on_miss n p e.keeper key)) (write_report e.table x) ≡ none
+  pub hit : (i : ℕ) → first_for n e.table key ≡ Some i → report_refusal e.keeper (report_for i (counted (slot_at e.table i))) ≡ None
+  pub write : (x : Write) → miss_write e.keeper (on_miss n p e.keeper key) ≡ Some x → write_refusal n e.table x ≡ None
+  pub answer : (x : Write) → miss_write e.keeper (on_miss n p e.keeper key) ≡ Some x
+      → report_refusal (miss_keeper e.keeper (on_miss n p e.keeper key)) (write_report e.table x) ≡ None
 
 abbrev pub InnerPromise : Type 0
 InnerPromise = (w most : ℕ) (pol : List Rule) → Accepted w most pol → (slots : ℕ) → 1 ≤ slots
@@ -43,16 +42,16 @@ InnerPromise = (w most : ℕ) (pol : List Rule) → Accepted w most pol → (slo
 
 -- no refusal, or this one
 abbrev pub NoneBut : ℕ → Option ℕ → Type 0
-NoneBut r o = (o ≡ none) ⊎ (o ≡ some r)
+NoneBut r o = (o ≡ None) ⊎ (o ≡ Some r)
 
 -- a new write is taken; a write given again is refused at most for a value bit under a wildcard (3), and a report at most for a sequence
 -- larger than the keeper's (11)
 pub record InnerRefusals (n : ℕ) (p : PolicyView) (e : Ends) (key : Key) : Type 0 where
-  pub new : (i : ℕ) (x : Entry) → on_miss n p e.keeper key ≡ new_entry i x → write_refusal n e.table (write_for i x) ≡ none
+  pub new : (i : ℕ) (x : Entry) → on_miss n p e.keeper key ≡ new_entry i x → write_refusal n e.table (write_for i x) ≡ None
   pub resent : (i : ℕ) → on_miss n p e.keeper key ≡ again i → NoneBut bad_record (write_refusal n e.table (write_for i (entry_at e.keeper i)))
-  pub hit : (i : ℕ) → first_for n e.table key ≡ some i
+  pub hit : (i : ℕ) → first_for n e.table key ≡ Some i
       → NoneBut report_ahead (report_refusal e.keeper (report_for i (counted (slot_at e.table i))))
-  pub answer : (x : Write) → miss_write e.keeper (on_miss n p e.keeper key) ≡ some x → write_refusal n e.table x ≡ none
+  pub answer : (x : Write) → miss_write e.keeper (on_miss n p e.keeper key) ≡ Some x → write_refusal n e.table x ≡ None
       → NoneBut report_ahead (report_refusal (miss_keeper e.keeper (on_miss n p e.keeper key)) (write_report e.table x))
 
 abbrev pub InnerRefusalLaw : Type 0

@@ -1,14 +1,13 @@
 -- Worked examples of the source documents, at 104 positions: the best rule, the cover list, and the order in which bits are fixed.
 -- Assumes nothing.
-use Rattle.std.specs.Prelude.{List, [], ◌∷◌, ◌++◌, ℕ, replicate}
-use Rattle.std.proofs.Math.Option.{some}
+use Rattle.std.specs.Prelude.{List, [], ◌∷◌, ◌++◌, ℕ, replicate, Some}
 use Rattle.model.specs.Policy.{Rule, best}
 use Rattle.model.specs.Isolate.{fixed_by}
 use Rattle.model.specs.Small.{row, Case, fixes, cover_case}
 
 -- rule i is the key's best, and isolating it fixes these positions
 unfoldable pub fix_case : List Rule → List ℕ → ℕ → List ℕ → Case
-fix_case pol key i ps = record { computed = fixes (best 104 pol key) (fixed_by 104 pol key i); expected = fixes (some i) ps }
+fix_case pol key i ps = record { computed = fixes (best 104 pol key) (fixed_by 104 pol key i); expected = fixes (Some i) ps }
 
 -- a rule on positions 0 to 7
 unfoldable pub top_rule : ℕ → ℕ → ℕ → Rule

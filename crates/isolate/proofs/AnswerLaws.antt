@@ -2,7 +2,7 @@
 use mathlib.Core.Path.{◌≡◌, refl, sym, ap, ◌∙◌}
 use mathlib.Core.Bool.{true}
 use mathlib.Core.List.{List}
-use mathlib.Core.Option.{Option, none, some}
+use Rattle.std.specs.Prelude.{Option, None, Some}
 use mathlib.Core.Logic.{◌≢◌}
 use Prim.Native.Nat.{ℕ, ◌≤◌, ◌<◌}
 use lib.Dec.{ltb}
@@ -34,11 +34,11 @@ module _ (policy key : List ℕ) (number : ℕ) where
   abbrev says : Verdict → Type 0
   says r = r ≡ verdict_of (isolate_refusal policy key number)
 
-  pub said-policy : (r : Refusal) → policy_refusal policy ≡ some r → says (Refused r)
+  pub said-policy : (r : Refusal) → policy_refusal policy ≡ Some r → says (Refused r)
   unfolding isolate_refusal
   said-policy r e = rw e
 
-  module _ (fine : policy_refusal policy ≡ none) where
+  module _ (fine : policy_refusal policy ≡ None) where
     pub said-key : length key ≢ key_size → says (Refused (refusal ragged 0))
     unfolding isolate_refusal key_refusal
     said-key h = rw (fine, ne_eqb _ _ h)
@@ -53,36 +53,36 @@ module _ (policy key : List ℕ) (number : ℕ) where
         pub said-none : b ≡ NoRule → says (Refused (refusal not_best 0))
         unfolding isolate_refusal key_refusal
         said-none t =
-            let is : best positions (rules key_size policy) key ≡ none = found_none policy key (sym e ∙ t) in
+            let is : best positions (rules key_size policy) key ≡ None = found_none policy key (sym e ∙ t) in
             rw (fine, eq-eqb _ _ long, lt-ltb _ _ low, is)
 
         pub said-other : (i a : ℕ) → b ≡ Found i a → i ≢ number → says (Refused (refusal not_best 0))
         unfolding isolate_refusal key_refusal
         said-other i a t h =
-            let is : best positions (rules key_size policy) key ≡ some i = found-rule policy key i a (sym e ∙ t) in
+            let is : best positions (rules key_size policy) key ≡ Some i = found-rule policy key i a (sym e ∙ t) in
             rw (fine, eq-eqb _ _ long, lt-ltb _ _ low, is, ne_eqb i number h)
 
         pub said-isolated : (i a : ℕ) → b ≡ Found i a → i ≡ number → says Fine
         unfolding isolate_refusal key_refusal
         said-isolated i a t h =
-            let is : best positions (rules key_size policy) key ≡ some i = found-rule policy key i a (sym e ∙ t) in
+            let is : best positions (rules key_size policy) key ≡ Some i = found-rule policy key i a (sym e ∙ t) in
             rw (fine, eq-eqb _ _ long, lt-ltb _ _ low, is, eq-eqb i number h)
 
 -- ---- where the rule is isolated
 
-best-is : (o : Option ℕ) (number : ℕ) → is_best o number ≡ true → o ≡ some number
-best-is none number e = clash e refl
-best-is (some i) number e = ap some (eqb-true i number e)
+best-is : (o : Option ℕ) (number : ℕ) → is_best o number ≡ true → o ≡ Some number
+best-is None number e = clash e refl
+best-is (Some i) number e = ap Some (eqb-true i number e)
 
-pub policy-fine : (policy key : List ℕ) (number : ℕ) → isolate_refusal policy key number ≡ none → policy_refusal policy ≡ none
+pub policy-fine : (policy key : List ℕ) (number : ℕ) → isolate_refusal policy key number ≡ None → policy_refusal policy ≡ None
 unfolding isolate_refusal
 policy-fine policy key number e = (none_first (policy_refusal policy) _ e).0
 
 module _ (policy key : List ℕ) (number : ℕ) (s : Verdict) (e : s ≡ verdict_of (isolate_refusal policy key number)) where
-  pub refused_as : (r : Refusal) → s ≡ Refused r → isolate_refusal policy key number ≡ some r
+  pub refused_as : (r : Refusal) → s ≡ Refused r → isolate_refusal policy key number ≡ Some r
   refused_as r t = verdict-refused (isolate_refusal policy key number) e t
 
-  pub isolated-as : s ≡ Fine → isolate_refusal policy key number ≡ none
+  pub isolated-as : s ≡ Fine → isolate_refusal policy key number ≡ None
   isolated-as t = verdict-fine (isolate_refusal policy key number) e t
 
   pub ready : s ≡ Fine → Ready policy key number
@@ -91,7 +91,7 @@ module _ (policy key : List ℕ) (number : ℕ) (s : Verdict) (e : s ≡ verdict
       let p = none_first (policy_refusal policy) _ (isolated-as t) in
       let k = none_first (key_refusal key) _ p.1 in
       let n = need-none (ltb number (rule_count key_size policy)) no_such_rule _ k.1 in
-      let b = need-none (is_best (best positions (rules key_size policy) key) number) not_best none n.1 in
+      let b = need-none (is_best (best positions (rules key_size policy) key) number) not_best None n.1 in
       record {
         low = ltb-true _ _ n.0;
         few = passed-few policy p.0;

@@ -2,7 +2,7 @@
 use mathlib.Core.Path.{◌≡◌, sym, ap, ◌∙◌}
 use mathlib.Core.Bool.{Bool, true, not}
 use mathlib.Core.List.{List, [], ◌∷◌}
-use mathlib.Core.Option.{some}
+use Rattle.std.specs.Prelude.{Some}
 use mathlib.Core.Logic.{◌≢◌}
 use Prim.Native.Nat.{ℕ, zero, suc, ◌+◌, ◌≤◌, ◌<◌}
 use native.Mathlib.Nat.{not-suc-le-zero}
@@ -88,7 +88,7 @@ module _ (n : ℕ) (pol : List Rule) (key : List ℕ) (i : ℕ) where
   left p xs = keep (λ e. not (sep p e)) xs
 
   -- at first
-  pub going_start : (items v m : List ℕ) (top : ℕ) → Lists items top (dependents n pol i) → best n pol key ≡ some i
+  pub going_start : (items v m : List ℕ) (top : ℕ) → Lists items top (dependents n pol i) → best n pol key ≡ Some i
       → PatternOf pol i v m → Going n pol key i top v m 0 (take top items)
   going_start items v m top is b rows =
       rw (is.same, rows.value-is, rows.mask_is)

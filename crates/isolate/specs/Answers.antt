@@ -1,6 +1,5 @@
 -- What the call that isolates answers. Assumes nothing.
-use Rattle.std.specs.Prelude.{Bool, false, List, ℕ, ltb, eqb, replicate}
-use Rattle.std.proofs.Math.Option.{Option, none, some}
+use Rattle.std.specs.Prelude.{Bool, false, List, ℕ, ltb, eqb, replicate, Option, None, Some}
 use Rattle.model.specs.Policy.{best}
 use Rattle.model.specs.Isolate.{Isolated as IsolatedRule, isolate}
 use Rattle.model.specs.Refusals.{no_such_rule, not_best}
@@ -15,8 +14,8 @@ use Rattle.checks.specs.declared.refusal.Verdict.TheVariants.{Refused, Fine}
 
 -- the best rule, if there is one, is this one
 abbrev pub is_best : Option ℕ → ℕ → Bool
-is_best none number = false
-is_best (some i) number = eqb i number
+is_best None number = false
+is_best (Some i) number = eqb i number
 
 -- policy 1, 2, 3; key 1; 6; 7
 unfoldable pub isolate_refusal : List ℕ → List ℕ → ℕ → Option Refusal
@@ -24,7 +23,7 @@ isolate_refusal policy key number =
     or_else (policy_refusal policy)
     (or_else (key_refusal key)
     (need (ltb number (rule_count key_size policy)) no_such_rule
-    (need (is_best (best positions (rules key_size policy) key) number) not_best none)))
+    (need (is_best (best positions (rules key_size policy) key) number) not_best None)))
 
 -- a refusal: rows and counts are all 0
 abbrev pub refused_answer : Refusal → IsolateAnswer
@@ -36,8 +35,8 @@ abbrev pub isolated_answer : IsolatedRule → IsolateAnswer
 isolated_answer x = record { verdict = Fine; value = x.value; mask = x.mask; fixed = x.fixed_bits; wildcards = x.wildcards_left }
 
 abbrev pub isolate_answer_of : Option Refusal → IsolatedRule → IsolateAnswer
-isolate_answer_of (some r) x = refused_answer r
-isolate_answer_of none x = isolated_answer x
+isolate_answer_of (Some r) x = refused_answer r
+isolate_answer_of None x = isolated_answer x
 
 unfoldable pub isolate_answer : List ℕ → List ℕ → ℕ → IsolateAnswer
 isolate_answer policy key number = isolate_answer_of (isolate_refusal policy key number) (isolate positions (rules key_size policy) key number)

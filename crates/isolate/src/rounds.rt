@@ -1,6 +1,5 @@
 // The rounds of isolating: each fixes the position that separates the most of the dependents that stand.
 ghost use Rattle.std.specs.Prelude.{◌≡◌, ◌<◌};
-ghost use Rattle.std.proofs.Math.Option.{some};
 ghost use Rattle.model.specs.Isolate.{isolate};
 ghost use Rattle.model.specs.Policy.{best, dependents};
 ghost use Rattle.ternary.specs.Sizes.{key_size, positions};
@@ -53,7 +52,7 @@ fn with_counts(pattern: Pattern, fixed: usize) -> Isolated
 
 // The rule isolated for the key, whose best it is. `deps` are the rule's dependents, which all stand at first.
 fn isolate_rule(policy: &[u8], key: [u8; KEY_SIZE], number: usize, deps: Numbers) -> Isolated
-    requires { (number < rule_count key_size policy.now) × (best positions (rules key_size policy.now) key ≡ some number) ×
+    requires { (number < rule_count key_size policy.now) × (best positions (rules key_size policy.now) key ≡ Some number) ×
         Lists deps.items deps.count (dependents positions (rules key_size policy.now) number) }
     ensures { as_isolated result ≡ isolate positions (rules key_size policy.now) key number }
 {

@@ -3,7 +3,7 @@ use mathlib.Core.Path.{◌≡◌, refl}
 use mathlib.Core.Bool.{false, not}
 use mathlib.Core.List.{List}
 use mathlib.Core.Logic.{◌≢◌}
-use mathlib.Core.Option.{Option, none, some}
+use Rattle.std.specs.Prelude.{Option, None, Some}
 use Prim.Native.Nat.{ℕ, ◌≤◌, ◌<◌}
 use native.Mathlib.Omega.{arith}
 use lib.Dec.{leb, eqb}
@@ -33,16 +33,16 @@ use Rattle.checks.specs.declared.refusal.Verdict.TheVariants.{Refused, Fine}
 
 -- ---- what an answer says of the tests
 
-pub not-refused : (o : Option ℕ) → numbered o ≡ none → o ≡ none
-not-refused none e = refl
-not-refused (some n) e = let z : ◌≡◌ {A = ℕ} 0 1 = cc in absurd (omega arith)
+pub not-refused : (o : Option ℕ) → numbered o ≡ None → o ≡ None
+not-refused None e = refl
+not-refused (Some n) e = let z : ◌≡◌ {A = ℕ} 0 1 = cc in absurd (omega arith)
 
 -- bytes that are not refused are as many as a report has
-pub bytes-long : (message : List ℕ) → bytes_refusal message ≡ none → length message ≡ report_size
+pub bytes-long : (message : List ℕ) → bytes_refusal message ≡ None → length message ≡ report_size
 unfolding bytes_refusal
 bytes-long message e =
     eqb-true _ _ (need-none (eqb (length message) report_size) ragged
-    (need (eqb (get_or message report_kind 0) is_report) wrong_kind (need (not (is_flawed (report_flaw message))) bad_record none)) e).0
+    (need (eqb (get_or message report_kind 0) is_report) wrong_kind (need (not (is_flawed (report_flaw message))) bad_record None)) e).0
 
 -- ---- the report against the slots: 9, 10, 11
 
@@ -54,7 +54,7 @@ module _ (keeper : List ℕ) (x : Report) where
   abbrev Told : Verdict → Option ℕ → Type 0
   Told r o = r ≡ verdict_of (numbered o) → r ≡ verdict_of (numbered (report_refusal k x))
 
-  pub no_slot : {r : Verdict} {i : ℕ} → i ≡ x.slot → slot_count key_size keeper ≤ i → Told r (some no_such_slot)
+  pub no_slot : {r : Verdict} {i : ℕ} → i ≡ x.slot → slot_count key_size keeper ≤ i → Told r (Some no_such_slot)
   unfolding report_refusal
   no_slot e l t = rw (le-leb (length k) x.slot (omega (arith, slot-count key_size keeper))) t
 
@@ -62,16 +62,16 @@ module _ (keeper : List ℕ) (x : Report) where
     inside : leb (length k) x.slot ≡ false
     inside = lt-leb (length k) x.slot (omega (arith, slot-count key_size keeper))
 
-    pub no-sequence : {r : Verdict} → x.sequence ≡ 0 → Told r (some sequence_zero)
+    pub no-sequence : {r : Verdict} → x.sequence ≡ 0 → Told r (Some sequence_zero)
     unfolding report_refusal
     no-sequence z t = rw (inside, eq-eqb x.sequence 0 z) t
 
     module _ {last : ℕ} (is : last ≡ (slot_at k i).sequence) where
-      pub too-new : {r : Verdict} → x.sequence ≢ 0 → last < x.sequence → Told r (some report_ahead)
+      pub too-new : {r : Verdict} → x.sequence ≢ 0 → last < x.sequence → Told r (Some report_ahead)
       unfolding report_refusal
       too-new n m t = rw (inside, ne_eqb x.sequence 0 n, ← e, ← is, lt-ltb last x.sequence m) t
 
-      pub in-time : {r : Verdict} → x.sequence ≢ 0 → x.sequence ≤ last → Told r none
+      pub in-time : {r : Verdict} → x.sequence ≢ 0 → x.sequence ≤ last → Told r None
       unfolding report_refusal
       in-time n m t = rw (inside, ne_eqb x.sequence 0 n, ← e, ← is, le-ltb last x.sequence m) t
 
@@ -80,7 +80,7 @@ module _ (keeper : List ℕ) (x : Report) where
 module _ (keeper message : List ℕ) where
   -- the report is taken
   pub record Accepted : Type 0 where
-    pub fine : report_refused keeper message ≡ none
+    pub fine : report_refused keeper message ≡ None
     pub long : length message ≡ report_size
     pub inside : (decode_report message).slot < slot_count key_size keeper
 
@@ -111,7 +111,7 @@ module _ (keeper message : List ℕ) where
 
   -- bytes of the right length and kind, with a zero byte that is zero, are not refused
   bytes-fine : length message ≡ report_size → get_or message report_kind 0 ≡ is_report → get_or message report_zero 0 ≡ 0
-      → bytes_refusal message ≡ none
+      → bytes_refusal message ≡ None
   unfolding bytes_refusal
   bytes-fine l kind zeroed = rw (eq-eqb _ _ l, eq-eqb _ _ kind, (report-clean message).1 (zeroed, tt))
 

@@ -1,6 +1,5 @@
 -- What the call for the open list answers, and what it leaves in the output. Assumes nothing.
-use Rattle.std.specs.Prelude.{◌≡◌, List, ℕ, length}
-use Rattle.std.proofs.Math.Option.{Option}
+use Rattle.std.specs.Prelude.{◌≡◌, List, ℕ, length, Option}
 use Rattle.ends.specs.Ends.{open_list}
 use Rattle.ternary.specs.Sizes.{key_size}
 use Rattle.buffers.specs.Parts.{splice}

@@ -1,6 +1,5 @@
 -- What the keeper answers to a report, and what it leaves in its buffer. Assumes nothing.
-use Rattle.std.specs.Prelude.{◌≡◌, not, List, ℕ, eqb, length, get_or}
-use Rattle.std.proofs.Math.Option.{Option, none, some}
+use Rattle.std.specs.Prelude.{◌≡◌, not, List, ℕ, eqb, length, get_or, Option, None, Some}
 use Rattle.ends.specs.Ends.{report_refusal, after_report}
 use Rattle.model.specs.Refusals.{ragged, wrong_kind, bad_record}
 use Rattle.ternary.specs.Sizes.{key_size}
@@ -16,14 +15,14 @@ use Rattle.checks.specs.declared.refusal.Verdict.{Verdict}
 
 -- the model's refusal number, at place 0
 abbrev pub numbered : Option ℕ → Option Refusal
-numbered none = none
-numbered (some number) = some (refusal number 0)
+numbered None = None
+numbered (Some number) = Some (refusal number 0)
 
 -- message 1, 8, 3
 unfoldable pub bytes_refusal : List ℕ → Option Refusal
 bytes_refusal message =
     need (eqb (length message) report_size) ragged
-    (need (eqb (get_or message report_kind 0) is_report) wrong_kind (need (not (is_flawed (report_flaw message))) bad_record none))
+    (need (eqb (get_or message report_kind 0) is_report) wrong_kind (need (not (is_flawed (report_flaw message))) bad_record None))
 
 -- keeper 4; message 1, 8, 3; then 9, 10, 11, which the model tells of the slots and the report that the bytes mean
 unfoldable pub report_refused : List ℕ → List ℕ → Option Refusal

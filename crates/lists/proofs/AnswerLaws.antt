@@ -2,7 +2,7 @@
 use Prim.Native.Nat.{ℕ, ◌*◌, ◌≤◌, ◌<◌}
 use mathlib.Core.Path.{◌≡◌}
 use mathlib.Core.List.{List}
-use mathlib.Core.Option.{none, some}
+use Rattle.std.specs.Prelude.{None, Some}
 use lib.ListN.{length, take}
 use lib.Seq.{length-take-le}
 use borrow.Author.Tests.{lt-ltb, le-ltb}
@@ -18,7 +18,7 @@ use Rattle.checks.specs.declared.refusal.CountAnswer.TheVariants.{Refused, Count
 module _ (items : List ℕ) (count : ℕ) (out : List ℕ) (few : count ≤ length items) where
   pub answered-short : length out < 2 * count → Answered (take count items) out (Refused (refusal short_output 0)) out
   answered-short l =
-      let t : list_refusal (take count items) (length out) ≡ some (refusal short_output 0) =
+      let t : list_refusal (take count items) (length out) ≡ Some (refusal short_output 0) =
       rw (length-take-le count items few, lt-ltb (length out) (2 * count) l)
       in
       record { answer = rw t; out-after = rw t }
@@ -26,7 +26,7 @@ module _ (items : List ℕ) (count : ℕ) (out : List ℕ) (few : count ≤ leng
   pub answered-count : {out' : List ℕ} → 2 * count ≤ length out → out' ≡ splice 0 (number_bytes (take count items)) out
       → Answered (take count items) out (Count count) out'
   answered-count l e =
-      let t : list_refusal (take count items) (length out) ≡ none =
+      let t : list_refusal (take count items) (length out) ≡ None =
       rw (length-take-le count items few, le-ltb (length out) (2 * count) l)
       in
       record { answer = rw (t, length-take-le count items few); out-after = rw t e }

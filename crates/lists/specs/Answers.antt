@@ -1,6 +1,5 @@
 -- What a call that writes a list answers, and what it leaves in the output. Assumes nothing.
-use Rattle.std.specs.Prelude.{◌≡◌, not, List, ℕ, ◌*◌, ltb, length}
-use Rattle.std.proofs.Math.Option.{Option, none}
+use Rattle.std.specs.Prelude.{◌≡◌, not, List, ℕ, ◌*◌, ltb, length, Option, None}
 use Rattle.model.specs.Refusals.{short_output}
 use Rattle.buffers.specs.Parts.{splice}
 use Rattle.checks.specs.Refusals.{need, unless_refused, count_answer_of}
@@ -10,7 +9,7 @@ use Rattle.checks.specs.declared.refusal.CountAnswer.{CountAnswer}
 
 -- 5, where the output has out_len bytes
 abbrev pub list_refusal : List ℕ → ℕ → Option Refusal
-list_refusal xs out_len = need (not (ltb out_len (2 * length xs))) short_output none
+list_refusal xs out_len = need (not (ltb out_len (2 * length xs))) short_output None
 
 -- the answer, and the output after it: the numbers of the list at its start, every other byte as it was
 pub record Answered (xs out : List ℕ) (r : CountAnswer) (out' : List ℕ) : Type 0 where

@@ -2,7 +2,7 @@
 use mathlib.Core.Path.{◌≡◌, ap, ◌∙◌}
 use mathlib.Core.Bool.{true, false}
 use mathlib.Core.List.{List}
-use mathlib.Core.Option.{Option, none, some}
+use Rattle.std.specs.Prelude.{Option, None, Some}
 use Prim.Native.Nat.{ℕ}
 use lib.ListN.{length, set}
 use Rattle.ends.specs.Records.{Slot, Write, Outcome, written, entry_in, write_for, entry_at}
@@ -59,8 +59,8 @@ module _ (policy keeper out : List ℕ) {d : Decision} {r : MissAnswer} {keeper'
   As m = MissedAs policy keeper m (short_for_write (miss_write k m) (length out)) out r keeper' out'
 
   -- outcomes 0 and 4: no write is given
-  answer-quiet : {x : Outcome} → gives_write n ≡ false → as_outcome d.outcome ≡ x → r ≡ miss_answer_of none x
-  answer-quiet g e = (rw g at c.answer) ∙ ap (miss_answer_of none) e
+  answer-quiet : {x : Outcome} → gives_write n ≡ false → as_outcome d.outcome ≡ x → r ≡ miss_answer_of None x
+  answer-quiet g e = (rw g at c.answer) ∙ ap (miss_answer_of None) e
 
   bytes-quiet : gives_write n ≡ false → keeper' ≡ keeper
   bytes-quiet g = rw (g, quiet-places n g) at c.keeper-after
@@ -74,12 +74,12 @@ module _ (policy keeper out : List ℕ) {d : Decision} {r : MissAnswer} {keeper'
   -- the others: a write is given
   module _ (w : Write) (g : gives_write n ≡ true) where
     abbrev refused : Option Refusal
-    refused = short_for_write (some w) (length out)
+    refused = short_for_write (Some w) (length out)
 
     answer-given : {x : Outcome} → as_outcome d.outcome ≡ x → r ≡ miss_answer_of refused x
     answer-given e = (rw g at c.answer) ∙ ap (miss_answer_of refused) e
 
-    out-given : as_write d.write ≡ w → out' ≡ unless_refused refused out (out_with (some w) out)
+    out-given : as_write d.write ≡ w → out' ≡ unless_refused refused out (out_with (Some w) out)
     out-given e = (rw g at c.out-after) ∙ ap (λ (x : Write). unless_refused refused out (splice 0 (encode_write x) out)) e
 
     -- outcome 5 leaves the keeper

@@ -2,7 +2,7 @@
 use mathlib.Core.Path.{◌≡◌, sym, ap, ◌∙◌}
 use mathlib.Core.List.{List}
 use mathlib.Core.Logic.{◌≢◌}
-use mathlib.Core.Option.{none, some}
+use Rattle.std.specs.Prelude.{None, Some}
 use Prim.Native.Nat.{ℕ, suc, ◌<◌}
 use native.Mathlib.Omega.{arith}
 use borrow.Author.Tests.{eq-eqb, ne_eqb}
@@ -46,7 +46,7 @@ module _ (policy key keeper : List ℕ) where
 
   pub used-up : {number action last : ℕ} {d : Decision} → RuleFor policy key number action
       → WholeSlots keeper → last ≡ largest ks → last ≡ last_sequence
-      → NoWrite 4 action number d → DecidedAs policy keeper (miss_with policy key keeper (some number) none) d
+      → NoWrite 4 action number d → DecidedAs policy keeper (miss_with policy key keeper (Some number) None) d
   used-up {number} rule whole e t is =
       rw (eq-eqb (largest ks) last_sequence (sym e ∙ t))
       (record {
@@ -57,7 +57,7 @@ module _ (policy key keeper : List ℕ) where
 
   pub not-used-up : {number last : ℕ} {d : Decision} → last ≡ largest ks → last ≢ last_sequence
       → DecidedAs policy keeper (entry_miss policy key keeper number) d
-      → DecidedAs policy keeper (miss_with policy key keeper (some number) none) d
+      → DecidedAs policy keeper (miss_with policy key keeper (Some number) None) d
   not-used-up e n is = rw (ne_eqb (largest ks) last_sequence (λ t. n (e ∙ t))) is
 
   pub held : (number : ℕ) {i : ℕ} {h : SlotFound} {d : Decision} → h ≡ slot_found_of (first_for positions ks key) → h ≡ At i
@@ -68,7 +68,7 @@ module _ (policy key keeper : List ℕ) where
   held-inside {i} e t = held_below keeper key i (found_at (first_for positions ks key) i (sym t ∙ e))
 
   pub not-held : (number : ℕ) {h : SlotFound} {d : Decision} → h ≡ slot_found_of (first_for positions ks key) → h ≡ Nowhere
-      → DecidedAs policy keeper (miss_with policy key keeper (some number) none) d → DecidedAs policy keeper (rule_miss policy key keeper number) d
+      → DecidedAs policy keeper (miss_with policy key keeper (Some number) None) d → DecidedAs policy keeper (rule_miss policy key keeper number) d
   not-held number e t is = rw (found_nowhere (first_for positions ks key) (sym t ∙ e)) is
 
   -- ---- the best rule

@@ -1,6 +1,5 @@
 -- What the keeper answers to a miss, and what it leaves in its buffer and in the output. Assumes nothing.
-use Rattle.std.specs.Prelude.{◌≡◌, not, List, ℕ, ltb, length}
-use Rattle.std.proofs.Math.Option.{Option, none, some}
+use Rattle.std.specs.Prelude.{◌≡◌, not, List, ℕ, ltb, length, Option, None, Some}
 use Rattle.ends.specs.Records.{Write, written}
 use Rattle.ends.specs.Ends.{Miss, no_rule, again, new_entry, used_up, miss_keeper, miss_write}
 use Rattle.ends.specs.Trace.{miss_outcome}
@@ -22,8 +21,8 @@ use Rattle.miss.specs.declared.carry.MissAnswer.{MissAnswer}
 
 -- 5, where a write is given and the output has out_len bytes
 abbrev pub short_for_write : Option Write → ℕ → Option Refusal
-short_for_write none out_len = none
-short_for_write (some w) out_len = need (not (ltb out_len (write_size key_size))) short_output none
+short_for_write None out_len = None
+short_for_write (Some w) out_len = need (not (ltb out_len (write_size key_size))) short_output None
 
 -- policy 1, 2, 3; key 1; keeper 4; 5
 unfoldable pub miss_refused : List ℕ → List ℕ → List ℕ → ℕ → Option Refusal
@@ -41,8 +40,8 @@ miss_bytes keeper (used_up r) = keeper
 
 -- the output with the write at its start
 abbrev pub out_with : Option Write → List ℕ → List ℕ
-out_with none out = out
-out_with (some w) out = splice 0 (encode_write w) out
+out_with None out = out
+out_with (Some w) out = splice 0 (encode_write w) out
 
 -- of what the miss comes to and the refusal: the answer; the keeper after it, byte by byte; its slots; and the output
 pub record MissedAs (policy keeper : List ℕ) (m : Miss) (refused : Option Refusal) (out : List ℕ) (r : MissAnswer)

@@ -1,6 +1,5 @@
 -- A decision on a miss, carried out, in its own values. Assumes nothing.
-use Rattle.std.specs.Prelude.{◌≡◌, not, cond, ◌&&◌, List, ℕ, ltb, length, set}
-use Rattle.std.proofs.Math.Option.{Option, none, some}
+use Rattle.std.specs.Prelude.{◌≡◌, not, cond, ◌&&◌, List, ℕ, ltb, length, set, Option, None, Some}
 use Rattle.ends.specs.Records.{Write, Outcome, written, entry_in}
 use Rattle.model.specs.Refusals.{short_output}
 use Rattle.ternary.specs.Sizes.{key_size}
@@ -22,12 +21,12 @@ abbrev pub as_struct : Outcome → OutcomeStruct
 as_struct x = record { outcome = x.outcome; action = x.action; rule = x.rule; slot = x.slot; evicted = x.evicted }
 
 abbrev pub miss_answer_of : Option Refusal → Outcome → MissAnswer
-miss_answer_of (some r) x = Refused r
-miss_answer_of none x = Told (as_struct x)
+miss_answer_of (Some r) x = Refused r
+miss_answer_of None x = Told (as_struct x)
 
 -- where the decision gives a write and the output is too short for it
 abbrev pub short_refusal : ℕ → ℕ → Option Refusal
-short_refusal outcome out_len = need (not (gives_write outcome && ltb out_len (write_size key_size))) short_output none
+short_refusal outcome out_len = need (not (gives_write outcome && ltb out_len (write_size key_size))) short_output None
 
 -- the entry of the write goes into its slot, where one is placed
 pub record NewEntryPut (outcome : ℕ) (w : Write) (keeper keeper' : List ℕ) : Type 0 where

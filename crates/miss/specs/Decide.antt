@@ -1,6 +1,5 @@
 -- What a miss comes to, by value, in the words of the model. Assumes nothing.
-use Rattle.std.specs.Prelude.{◌≡◌, List, ℕ, ◌≤◌, eqb, length}
-use Rattle.std.proofs.Math.Option.{Option, some}
+use Rattle.std.specs.Prelude.{◌≡◌, List, ℕ, ◌≤◌, eqb, length, Option, Some}
 use Rattle.model.specs.Policy.{rule_at}
 use Rattle.ends.specs.Ends.{first_for, last_sequence, largest, slot_for_entry, Miss, new_entry, miss_of, next_entry, on_miss}
 use Rattle.ternary.specs.Sizes.{key_size, positions}
@@ -39,7 +38,7 @@ entry_miss policy key keeper number =
     new_entry (slot_for_entry k) (next_entry (policy_view policy) k key number)
 
 abbrev pub rule_miss : List ℕ → List ℕ → List ℕ → ℕ → Miss
-rule_miss policy key keeper number = miss_with policy key keeper (some number) (first_for positions (slots key_size keeper) key)
+rule_miss policy key keeper number = miss_with policy key keeper (Some number) (first_for positions (slots key_size keeper) key)
 
 -- what the model says of the miss
 abbrev pub miss_in : List ℕ → List ℕ → List ℕ → Miss

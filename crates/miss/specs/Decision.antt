@@ -1,6 +1,5 @@
 -- A decision on a miss, by value, in the words of the model. Assumes nothing.
-use Rattle.std.specs.Prelude.{◌≡◌, cond, List, ℕ, ◌<◌}
-use Rattle.std.proofs.Math.Option.{Option, none, some}
+use Rattle.std.specs.Prelude.{◌≡◌, cond, List, ℕ, ◌<◌, Option, None, Some}
 use Rattle.ends.specs.Records.{Slot, Write, Outcome, write_for, blank, slot_at}
 use Rattle.ends.specs.Ends.{PolicyView, by_policy, is_empty, Miss, miss_write}
 use Rattle.ends.specs.Trace.{nothing, miss_outcome}
@@ -18,8 +17,8 @@ policy_view policy = by_policy positions (rules key_size policy)
 
 -- the write that is given, or one that is all 0
 abbrev pub or_blank : Option Write → Write
-or_blank none = write_for 0 (blank key_size)
-or_blank (some w) = w
+or_blank None = write_for 0 (blank key_size)
+or_blank (Some w) = w
 
 -- the decision is that of the miss: its outcome, and its write
 pub record DecidedAs (policy keeper : List ℕ) (m : Miss) (d : Decision) : Type 0 where
@@ -31,7 +30,7 @@ pub record DecidedAs (policy keeper : List ℕ) (m : Miss) (d : Decision) : Type
 -- a decision without a write
 pub record NoWrite (outcome action rule : ℕ) (d : Decision) : Type 0 where
   pub told : as_outcome d.outcome ≡ record { outcome = outcome; action = action; rule = rule; slot = nothing; evicted = nothing }
-  pub write : as_write d.write ≡ or_blank none
+  pub write : as_write d.write ≡ or_blank None
 
 -- the outcome of a rule that is written to slot i, as the model has it of the entry
 abbrev pub entry_outcome : List Slot → ℕ → ℕ → ℕ → Outcome

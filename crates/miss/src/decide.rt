@@ -1,6 +1,5 @@
 // What a miss comes to, by value: nothing is written yet.
 ghost use Rattle.std.specs.Prelude.{◌≡◌, suc};
-ghost use Rattle.std.proofs.Math.Option.{none, some};
 ghost use Rattle.ends.specs.Ends.{largest};
 ghost use Rattle.ternary.specs.Sizes.{key_size};
 ghost use Rattle.end_records.specs.Slots.{slots};
@@ -49,7 +48,7 @@ fn new_entry(
 fn fresh_entry(policy: &[u8], key: &[u8], keeper: &[u8], number: u16, action: u16) -> Decision
     requires { RuleFor policy.now key.now number action × WholeSlots keeper.now }
     ensures { DecidedAs policy.now keeper.now
-        (miss_with policy.now key.now keeper.now (some number) none) result }
+        (miss_with policy.now key.now keeper.now (Some number) None) result }
 {
     let last = slots::choose::largest_sequence(keeper);
     if last == layout::LAST_SEQUENCE {

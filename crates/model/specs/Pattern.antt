@@ -1,6 +1,5 @@
 -- Ternary patterns: a value row and a mask row. n is the number of positions: 104 for keys of 13 bytes. Assumes nothing.
-use Rattle.std.specs.Prelude.{Bool, not, ◌&&◌, ◌||◌, List, ℕ, ◌+◌, ◌*◌, ◌-◌, eqb}
-use Rattle.std.proofs.Math.Option.{Option}
+use Rattle.std.specs.Prelude.{Bool, not, ◌&&◌, ◌||◌, List, ℕ, ◌+◌, ◌*◌, ◌-◌, eqb, Option}
 use Rattle.model.specs.Below.{all_below, count_below, first_below}
 use Rattle.model.specs.Bits.{bit_at}
 

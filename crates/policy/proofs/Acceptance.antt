@@ -1,7 +1,7 @@
 -- A policy is not refused where its bytes are those of an accepted policy, and in no other case. Assumes nothing.
 use mathlib.Core.Path.{◌≡◌, refl, sym, ◌∙◌}
 use mathlib.Core.List.{List}
-use mathlib.Core.Option.{none}
+use Rattle.std.specs.Prelude.{None}
 use mathlib.Core.Logic.{◌↔◌}
 use Prim.Native.Nat.{ℕ, ◌*◌, ◌%◌, ◌≤◌, ◌<◌}
 use native.Mathlib.Omega.{arith}
@@ -25,7 +25,7 @@ use Rattle.checks.specs.declared.flawed.FirstFlaw.TheVariants.{AllClean, Flawed}
 use Rattle.checks.proofs.FlawedLaws.{all-clean}
 use Rattle.policy.specs.Refusals.{policy_refusal, AcceptedBytes}
 
-flaw-none : (x : FirstFlaw) → flaw_refusal x ≡ none → x ≡ AllClean
+flaw-none : (x : FirstFlaw) → flaw_refusal x ≡ None → x ≡ AllClean
 flaw-none AllClean e = refl
 flaw-none (Flawed i flaw) e = let z : ◌≡◌ {A = ℕ} 0 1 = cc in absurd (omega arith)
 
@@ -35,7 +35,7 @@ pub record Passes (bs : List ℕ) : Type 0 where
   pub few : rule_count key_size bs ≤ most_rules
   pub flawless : (i : ℕ) → i < rule_count key_size bs → rule_flaw_at key_size bs i ≡ Clean
 
-pub refused-not : (bs : List ℕ) → policy_refusal bs ≡ none → Passes bs
+pub refused-not : (bs : List ℕ) → policy_refusal bs ≡ None → Passes bs
 unfolding policy_refusal
 refused-not bs e =
     let a = need-none _ _ _ e in
@@ -46,7 +46,7 @@ refused-not bs e =
       flawless = (all-clean (rule_flaw_at key_size bs) (rule_count key_size bs)).0 (flaw-none _ b.1);
     }
 
-not-refused : (bs : List ℕ) → Passes bs → policy_refusal bs ≡ none
+not-refused : (bs : List ℕ) → Passes bs → policy_refusal bs ≡ None
 unfolding policy_refusal
 not-refused bs p =
     rw (
@@ -100,5 +100,5 @@ accepted-passed bs a =
     }
 
 -- the check is `Accepted`, and nothing more or less
-pub accepted-bytes : (bs : List ℕ) → (policy_refusal bs ≡ none) ↔ AcceptedBytes bs
+pub accepted-bytes : (bs : List ℕ) → (policy_refusal bs ≡ None) ↔ AcceptedBytes bs
 accepted-bytes bs = (λ e. passed-accepted bs (refused-not bs e), λ a. not-refused bs (accepted-passed bs a))

@@ -1,7 +1,7 @@
 -- What the best rule that was found says of the key, for its callers. Assumes nothing.
 use mathlib.Core.Path.{◌≡◌, refl, sym, ap}
 use mathlib.Core.List.{List}
-use mathlib.Core.Option.{Option, none, some}
+use Rattle.std.specs.Prelude.{Option, None, Some}
 use Prim.Native.Nat.{ℕ, ◌<◌}
 use native.Mathlib.Omega.{arith}
 use Rattle.model.specs.Policy.{Rule as PolicyRule, rule_at, best}
@@ -12,23 +12,23 @@ use Rattle.records.proofs.RuleLaws.{rule-count}
 use Rattle.policy.specs.Best.{found_of, best_found}
 use Rattle.policy.specs.declared.search.BestFound.TheVariants.{NoRule, Rule}
 
-none_of : (pol : List PolicyRule) (o : Option ℕ) → found_of pol o ≡ NoRule → o ≡ none
-none_of pol none e = refl
-none_of pol (some i) e = let z : ◌≡◌ {A = ℕ} 0 1 = cc in absurd (omega arith)
+none_of : (pol : List PolicyRule) (o : Option ℕ) → found_of pol o ≡ NoRule → o ≡ None
+none_of pol None e = refl
+none_of pol (Some i) e = let z : ◌≡◌ {A = ℕ} 0 1 = cc in absurd (omega arith)
 
-rule-of : (pol : List PolicyRule) (o : Option ℕ) (i a : ℕ) → found_of pol o ≡ Rule i a → (o ≡ some i) × (a ≡ (rule_at pol i).action)
-rule-of pol none i a e = let z : ◌≡◌ {A = ℕ} 0 1 = cc in absurd (omega arith)
-rule-of pol (some j) i a e =
+rule-of : (pol : List PolicyRule) (o : Option ℕ) (i a : ℕ) → found_of pol o ≡ Rule i a → (o ≡ Some i) × (a ≡ (rule_at pol i).action)
+rule-of pol None i a e = let z : ◌≡◌ {A = ℕ} 0 1 = cc in absurd (omega arith)
+rule-of pol (Some j) i a e =
     let same : j ≡ i = cc in
     let acts : (rule_at pol j).action ≡ a = cc in
-    (ap some same, sym (rw same at acts))
+    (ap Some same, sym (rw same at acts))
 
 module _ (policy key : List ℕ) where
-  pub found_none : best_found policy key ≡ NoRule → best positions (rules key_size policy) key ≡ none
+  pub found_none : best_found policy key ≡ NoRule → best positions (rules key_size policy) key ≡ None
   unfolding best_found
   found_none e = none_of (rules key_size policy) _ e
 
-  pub found-rule : (i a : ℕ) → best_found policy key ≡ Rule i a → best positions (rules key_size policy) key ≡ some i
+  pub found-rule : (i a : ℕ) → best_found policy key ≡ Rule i a → best positions (rules key_size policy) key ≡ Some i
   unfolding best_found
   found-rule i a e = (rule-of (rules key_size policy) _ i a e).0
 
@@ -37,5 +37,5 @@ module _ (policy key : List ℕ) where
   found-action i a e = (rule-of (rules key_size policy) (best positions (rules key_size policy) key) i a e).1
 
   -- the best rule is one of the policy
-  pub best-below : (i : ℕ) → best positions (rules key_size policy) key ≡ some i → i < rule_count key_size policy
+  pub best-below : (i : ℕ) → best positions (rules key_size policy) key ≡ Some i → i < rule_count key_size policy
   best-below i e = omega (arith, best-inside (rules key_size policy) positions key i e, rule-count key_size policy)

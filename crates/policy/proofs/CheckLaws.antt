@@ -1,7 +1,7 @@
 -- What the answer of the check says of the policy, for its callers. Assumes nothing.
 use mathlib.Core.Path.{◌≡◌, refl}
 use mathlib.Core.List.{List}
-use mathlib.Core.Option.{none, some}
+use Rattle.std.specs.Prelude.{None, Some}
 use Prim.Native.Nat.{ℕ, ◌≤◌}
 use Rattle.ternary.specs.Sizes.{key_size}
 use Rattle.records.specs.Layout.{most_rules}
@@ -14,11 +14,11 @@ use Rattle.policy.proofs.Acceptance.{refused-not}
 use Rattle.checks.proofs.RefusalLaws.{count-refused, count-given}
 
 module _ (bs : List ℕ) where
-  pub check-refused : (r : Refusal) → Refused r ≡ check_answer bs → policy_refusal bs ≡ some r
+  pub check-refused : (r : Refusal) → Refused r ≡ check_answer bs → policy_refusal bs ≡ Some r
   unfolding check_answer
   check-refused r e = count-refused (policy_refusal bs) (rule_count key_size bs) e refl
 
-  pub check-passed : (m : ℕ) → Count m ≡ check_answer bs → policy_refusal bs ≡ none
+  pub check-passed : (m : ℕ) → Count m ≡ check_answer bs → policy_refusal bs ≡ None
   unfolding check_answer
   check-passed m e = (count-given (policy_refusal bs) (rule_count key_size bs) e refl).0
 
@@ -27,5 +27,5 @@ module _ (bs : List ℕ) where
   check-count m e = (count-given (policy_refusal bs) (rule_count key_size bs) e refl).1
 
   -- a policy that is not refused has few rules
-  pub passed-few : policy_refusal bs ≡ none → rule_count key_size bs ≤ most_rules
+  pub passed-few : policy_refusal bs ≡ None → rule_count key_size bs ≤ most_rules
   passed-few e = (refused-not bs e).few

@@ -3,7 +3,7 @@ use mathlib.Core.Path.{◌≡◌, sym, ◌∙◌}
 use mathlib.Core.Bool.{Bool, true, false}
 use mathlib.Core.List.{List}
 use mathlib.Core.Logic.{◌≢◌}
-use mathlib.Core.Option.{some, none}
+use Rattle.std.specs.Prelude.{None, Some}
 use Prim.Native.Nat.{ℕ}
 use lib.ListN.{length}
 use borrow.Author.Tests.{eq-eqb, ne_eqb}
@@ -23,28 +23,28 @@ use Rattle.policy.proofs.CheckLaws.{check-refused, check-passed}
 use Rattle.policy.specs.Lent.{lent_refusal, FineLent}
 
 module _ (policy key end : List ℕ) where
-  pub bad-policy : {a : CountAnswer} {r : Refusal} → a ≡ check_answer policy → a ≡ Refused r → lent_refusal policy key end ≡ some r
+  pub bad-policy : {a : CountAnswer} {r : Refusal} → a ≡ check_answer policy → a ≡ Refused r → lent_refusal policy key end ≡ Some r
   unfolding lent_refusal best_refusal
   bad-policy {a} {r} e t = rw (check-refused policy r (sym t ∙ e))
 
   module _ {a : CountAnswer} {n : ℕ} (e : a ≡ check_answer policy) (t : a ≡ Count n) where
-    passed : policy_refusal policy ≡ none
+    passed : policy_refusal policy ≡ None
     passed = check-passed policy n (sym t ∙ e)
 
-    pub bad-key : length key ≢ key_size → lent_refusal policy key end ≡ some (refusal ragged 0)
+    pub bad-key : length key ≢ key_size → lent_refusal policy key end ≡ Some (refusal ragged 0)
     unfolding lent_refusal best_refusal key_refusal
     bad-key k = rw (passed, ne_eqb (length key) key_size k)
 
     module _ {b : Bool} (k : length key ≡ key_size) (f : b ≡ slots_fit end) where
-      pub bad-end : b ≡ false → lent_refusal policy key end ≡ some (refusal bad_slots 0)
+      pub bad-end : b ≡ false → lent_refusal policy key end ≡ Some (refusal bad_slots 0)
       unfolding lent_refusal best_refusal key_refusal slots_refusal
       bad-end x = rw (passed, eq-eqb (length key) key_size k, sym f ∙ x)
 
-      pub none-bad : b ≡ true → lent_refusal policy key end ≡ none
+      pub none-bad : b ≡ true → lent_refusal policy key end ≡ None
       unfolding lent_refusal best_refusal key_refusal slots_refusal
       none-bad x = rw (passed, eq-eqb (length key) key_size k, sym f ∙ x)
 
-  pub parts-fine : lent_refusal policy key end ≡ none → FineLent policy key end
+  pub parts-fine : lent_refusal policy key end ≡ None → FineLent policy key end
   unfolding lent_refusal best_refusal
   parts-fine e =
       let parts = none_first (best_refusal policy key) (slots_refusal end) e in

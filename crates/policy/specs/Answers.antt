@@ -1,6 +1,5 @@
 -- What the policy's calls answer. Assumes nothing.
-use Rattle.std.specs.Prelude.{List, ℕ}
-use Rattle.std.proofs.Math.Option.{Option}
+use Rattle.std.specs.Prelude.{List, ℕ, Option}
 use Rattle.ternary.specs.Sizes.{key_size}
 use Rattle.records.specs.Rules.{rule_count}
 use Rattle.checks.specs.declared.refusal.Refusal.{Refusal}

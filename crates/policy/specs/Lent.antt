@@ -1,6 +1,5 @@
 -- The refusals of a policy, a key and an end that are lent together. Assumes nothing.
-use Rattle.std.specs.Prelude.{◌≡◌, List, ℕ, length}
-use Rattle.std.proofs.Math.Option.{Option, none}
+use Rattle.std.specs.Prelude.{◌≡◌, List, ℕ, length, Option, None}
 use Rattle.ternary.specs.Sizes.{key_size}
 use Rattle.checks.specs.Refusals.{or_else}
 use Rattle.checks.specs.declared.refusal.Refusal.{Refusal}
@@ -15,6 +14,6 @@ lent_refusal policy key end = or_else (best_refusal policy key) (slots_refusal e
 
 -- what they are where none is refused
 pub record FineLent (policy key end : List ℕ) : Type 0 where
-  pub accepted : policy_refusal policy ≡ none
+  pub accepted : policy_refusal policy ≡ None
   pub long : length key ≡ key_size
   pub whole : WholeSlots end

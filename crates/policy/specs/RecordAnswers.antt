@@ -1,6 +1,5 @@
 -- What is answered about a rule's record, and what of the policy is shown. Assumes nothing.
-use Rattle.std.specs.Prelude.{List, [], ℕ, ltb}
-use Rattle.std.proofs.Math.Option.{Option, none}
+use Rattle.std.specs.Prelude.{List, [], ℕ, ltb, Option, None}
 use Rattle.model.specs.Refusals.{no_such_rule}
 use Rattle.ternary.specs.Sizes.{key_size}
 use Rattle.buffers.specs.Parts.{chunk}
@@ -13,7 +12,7 @@ use Rattle.checks.specs.declared.refusal.Verdict.{Verdict}
 
 -- policy 1, 2, 3; then 6
 unfoldable pub record_refusal : List ℕ → ℕ → Option Refusal
-record_refusal bs number = or_else (policy_refusal bs) (need (ltb number (rule_count key_size bs)) no_such_rule none)
+record_refusal bs number = or_else (policy_refusal bs) (need (ltb number (rule_count key_size bs)) no_such_rule None)
 
 unfoldable pub record_answer : List ℕ → ℕ → Verdict
 record_answer bs number = verdict_of (record_refusal bs number)

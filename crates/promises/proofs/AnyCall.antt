@@ -1,7 +1,7 @@
 -- No call is shut out from the sequences: with any arguments that are bytes it has an answer as its function promises. Assumes nothing.
 use mathlib.Core.Path.{◌≡◌, refl}
 use mathlib.Core.List.{List}
-use mathlib.Core.Option.{Option, none, some}
+use Rattle.std.specs.Prelude.{Option, None, Some}
 use Prim.Native.Nat.{ℕ, ◌<◌}
 use native.Mathlib.Omega.{arith}
 use lib.ListN.{length, set}
@@ -50,7 +50,7 @@ use Rattle.promises.proofs.Meaning.{Formed, keeper-whole, keeper-room, keeper-sl
 
 -- the model's record as the code's struct
 abbrev totals_struct : Totals → TotalsStruct
-totals_struct t = record { packets = t.packets; hits = t.hits; misses = t.misses; none = t.no_rule; evictions = t.evictions }
+totals_struct t = record { packets = t.packets; hits = t.hits; misses = t.misses; None = t.no_rule; evictions = t.evictions }
 
 module _ {count : ℕ} {s : State} (f : Formed count s) where
   abbrev k : List Slot
@@ -72,8 +72,8 @@ module _ {count : ℕ} {s : State} (f : Formed count s) where
       → let m = miss_in policy key s.keeper in
       slots key_size (unless_refused o s.keeper (miss_bytes s.keeper m)) ≡ unless_refused o k (miss_keeper k m)
   unfolding miss_refused
-  miss-meant policy key out_len b (some x) e = refl
-  miss-meant policy key out_len b none e =
+  miss-meant policy key out_len b (Some x) e = refl
+  miss-meant policy key out_len b None e =
       let fine = (parts-fine policy key s.keeper (none_first (lent_refusal policy key s.keeper) _ e).0).accepted in
       miss-slots (miss_in policy key s.keeper)
       (miss-fits policy b ((accepted-bytes policy).0 fine) k (keeper-slots f) (keeper-whole f).some-there key)
@@ -83,8 +83,8 @@ module _ {count : ℕ} {s : State} (f : Formed count s) where
   report-meant : (m : List ℕ) → Bytes m → (o : Option Refusal) → report_refused s.keeper m ≡ o
       → slots key_size (unless_refused o s.keeper (report_bytes s.keeper (decode_report m))) ≡ unless_refused o k (after_report k (decode_report m))
   unfolding report_answer report_bytes after_report decode_report
-  report-meant m b (some x) e = refl
-  report-meant m b none e =
+  report-meant m b (Some x) e = refl
+  report-meant m b None e =
       let taken = accepted-of s.keeper m refl (rw e) in
       let x : Report = decode_report m in
       let low = four_below report_hits m b (omega (arith, taken.long)) in
@@ -99,7 +99,7 @@ module _ {count : ℕ} {s : State} (f : Formed count s) where
     abbrev ends : Ends
     ends = ends_of policy trace s.table s.keeper
 
-    ends-spelled : policy_refusal policy ≡ none → ends_in (spelled encode_slot ends.table) (spelled encode_slot ends.keeper) ≡ ends
+    ends-spelled : policy_refusal policy ≡ None → ends_in (spelled encode_slot ends.table) (spelled encode_slot ends.keeper) ≡ ends
     ends-spelled fine =
         let accepted = (accepted-bytes policy).0 fine in
         let bytes = trace-byte policy b accepted f.some-there (keys key_size trace) (ends_in s.table s.keeper) (both-slots f) in
@@ -109,14 +109,14 @@ module _ {count : ℕ} {s : State} (f : Formed count s) where
         → (r : Ran) × (table' : List ℕ) × (keeper' : List ℕ) × (out' : List ℕ)
         × RunIs policy trace s.table s.keeper out t r table' keeper' out'
     unfolding run_of run_refusal
-    run-answered (some x) e = (
+    run-answered (Some x) e = (
       record { answer = Refused x; totals = totals_struct t },
       s.table,
       s.keeper,
       out,
       record { whole = rw e; meaning = rw e },
     )
-    run-answered none e = (
+    run-answered None e = (
       record {
         answer = Count (packet_count key_size trace);
         totals = totals_struct (totals_after t (outcomes_of policy trace s.table s.keeper));

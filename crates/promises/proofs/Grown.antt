@@ -4,9 +4,9 @@ use mathlib.Core.Path.{◌≡◌, refl, sym, ◌∙◌, subst}
 use mathlib.Core.Logic.{⊎_elim}
 use mathlib.Core.List.Memᴰ
 use mathlib.Core.List.{List, [], ◌∷◌, ◌++◌, Memᴰ}
-use mathlib.Core.Option.{Option, none, some}
+use Rattle.std.specs.Prelude.{Option, None, Some}
 use Prim.Native.Nat.{ℕ}
-use lib.ListN.{get_elem?}
+use Rattle.std.specs.Prelude.{slice_get}
 use Rattle.ends.specs.Records.{Write, Report}
 use Rattle.ends.specs.Ends.{Key, PolicyView, lookup, on_miss, miss_write, write_refusal, write_report, report_refusal}
 use Rattle.ends.specs.World.{World, Event, miss, write_arrives, report_arrives, packet, refused, start, step, run}
@@ -26,12 +26,12 @@ Within {A} xs ys = (x : A) → Memᴰ x xs → Memᴰ x ys
 
 module _ {A : Type 0} where
   sent-within : (o : Option A) (xs ys : List A) → Within xs ys → Within (sent o xs) (sent o ys)
-  sent-within none xs ys h x m = h x m
-  sent-within (some y) xs ys h x m = ⊎_elim Memᴰ.head (λ t. Memᴰ.tail (h x t)) (Memᴰ.cases_cons m)
+  sent-within None xs ys h x m = h x m
+  sent-within (Some y) xs ys h x m = ⊎_elim Memᴰ.head (λ t. Memᴰ.tail (h x t)) (Memᴰ.cases_cons m)
 
   within-sent : (o : Option A) (xs : List A) → Within xs (sent o xs)
-  within-sent none xs x m = m
-  within-sent (some y) xs x m = Memᴰ.tail m
+  within-sent None xs x m = m
+  within-sent (Some y) xs x m = Memᴰ.tail m
 
 -- the same ends, and every message of the first is one of the second's
 pub record Among (a b : World) : Type 0 where
@@ -57,23 +57,23 @@ module _ (n : ℕ) (p : PolicyView) where
     same = record { ends = refl; writes = w; reports = r }
 
     unless-among : {x y : World} (o : Option ℕ) → Among x y → Among (unless o a x) (unless o b y)
-    unless-among (some refusal) h = same
-    unless-among none h = h
+    unless-among (Some refusal) h = same
+    unless-among None h = h
 
-    write-among : (j : ℕ) (o : Option Write) → get_elem? ws j ≡ o → (e : Event) × Among (deliver_write n a o) (step n p b e)
+    write-among : (j : ℕ) (o : Option Write) → slice_get ws j ≡ o → (e : Event) × Among (deliver_write n a o) (step n p b e)
     unfolding step
-    write-among j none q = (refused, same)
-    write-among j (some x) q =
+    write-among j None q = (refused, same)
+    write-among j (Some x) q =
         let at = member-place b.writes x (w x (arrived ws j x q)) in
         let taken : Among (table_takes a x) (table_takes b x) =
-        record { ends = refl; writes = w; reports = sent-within (some (write_report b.table x)) rs b.reports r }
+        record { ends = refl; writes = w; reports = sent-within (Some (write_report b.table x)) rs b.reports r }
         in
         (write_arrives at.0, rw at.1 (unless-among (write_refusal n b.table x) taken))
 
-    report-among : (j : ℕ) (o : Option Report) → get_elem? rs j ≡ o → (e : Event) × Among (deliver_report a o) (step n p b e)
+    report-among : (j : ℕ) (o : Option Report) → slice_get rs j ≡ o → (e : Event) × Among (deliver_report a o) (step n p b e)
     unfolding step
-    report-among j none q = (refused, same)
-    report-among j (some x) q =
+    report-among j None q = (refused, same)
+    report-among j (Some x) q =
         let at = member-place b.reports x (r x (arrived rs j x q)) in
         let taken : Among (keeper_takes a x) (keeper_takes b x) = record { ends = refl; writes = w; reports = r } in
         (report_arrives at.0, rw at.1 (unless-among (report_refusal b.keeper x) taken))
@@ -83,8 +83,8 @@ module _ (n : ℕ) (p : PolicyView) where
     event-among (miss key) =
         let given = sent-within (miss_write b.keeper (on_miss n p b.keeper key)) ws b.writes w in
         (miss key, record { ends = refl; writes = given; reports = r })
-    event-among (write_arrives j) = write-among j (get_elem? ws j) refl
-    event-among (report_arrives j) = report-among j (get_elem? rs j) refl
+    event-among (write_arrives j) = write-among j (slice_get ws j) refl
+    event-among (report_arrives j) = report-among j (slice_get rs j) refl
     event-among (packet key) =
         let given = sent-within (hit_report (lookup n b.table key)) rs b.reports r in
         (packet key, record { ends = refl; writes = w; reports = given })
@@ -105,24 +105,24 @@ module _ (n : ℕ) (p : PolicyView) where
   no_more a = record { writes = λ x m. m; reports = λ x m. m }
 
   unless-more : {a b : World} (o : Option ℕ) → More a b → More a (unless o a b)
-  unless-more {a} (some refusal) h = no_more a
-  unless-more none h = h
+  unless-more {a} (Some refusal) h = no_more a
+  unless-more None h = h
 
   write-more : (a : World) (o : Option Write) → More a (deliver_write n a o)
-  write-more a none = no_more a
-  write-more a (some x) =
+  write-more a None = no_more a
+  write-more a (Some x) =
       unless-more (write_refusal n a.table x)
-      (record { writes = λ y m. m; reports = within-sent (some (write_report a.table x)) a.reports })
+      (record { writes = λ y m. m; reports = within-sent (Some (write_report a.table x)) a.reports })
 
   report-more : (a : World) (o : Option Report) → More a (deliver_report a o)
-  report-more a none = no_more a
-  report-more a (some x) = unless-more (report_refusal a.keeper x) (record { writes = λ y m. m; reports = λ y m. m })
+  report-more a None = no_more a
+  report-more a (Some x) = unless-more (report_refusal a.keeper x) (record { writes = λ y m. m; reports = λ y m. m })
 
   step-more : (a : World) (e : Event) → More a (step n p a e)
   unfolding step
   step-more a (miss key) = record { writes = within-sent (miss_write a.keeper (on_miss n p a.keeper key)) a.writes; reports = λ x m. m }
-  step-more a (write_arrives j) = write-more a (get_elem? a.writes j)
-  step-more a (report_arrives j) = report-more a (get_elem? a.reports j)
+  step-more a (write_arrives j) = write-more a (slice_get a.writes j)
+  step-more a (report_arrives j) = report-more a (slice_get a.reports j)
   step-more a (packet key) = record { writes = λ x m. m; reports = within-sent (hit_report (lookup n a.table key)) a.reports }
   step-more a refused = no_more a
 

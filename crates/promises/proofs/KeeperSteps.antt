@@ -2,7 +2,7 @@
 use mathlib.Core.Path.{◌≡◌, refl, sym, ◌∙◌}
 use mathlib.Core.Bool.{not}
 use mathlib.Core.List.{List, Memᴰ}
-use mathlib.Core.Option.{Option, none, some}
+use Rattle.std.specs.Prelude.{Option, None, Some}
 use Prim.Native.Nat.{ℕ, ◌≤◌, ◌<◌}
 use native.Mathlib.Omega.{arith}
 use lib.Dec.{ltb}
@@ -48,8 +48,8 @@ use Rattle.promises.proofs.Meaning.{meaning, same-world, Formed, Replaced, Stepp
 use Rattle.promises.proofs.Meaning.{keeper-formed}
 
 -- room for a write
-long-enough : (room : ℕ) → need (not (ltb room (write_size key_size))) short_output none ≡ none → write_size key_size ≤ room
-long-enough room e = ltb-false room (write_size key_size) (not-true (need-none _ _ none e).0)
+long-enough : (room : ℕ) → need (not (ltb room (write_size key_size))) short_output None ≡ None → write_size key_size ≤ room
+long-enough room e = ltb-false room (write_size key_size) (not-true (need-none _ _ None e).0)
 
 module _ {count : ℕ} {s : State} (f : Formed count s) where
   abbrev k : List Slot
@@ -77,7 +77,7 @@ module _ {count : ℕ} {s : State} (f : Formed count s) where
 
   -- outcomes 2, 3 and 5 give a write
   module _ (p : PolicyView) (out : List ℕ) where
-    miss-gives : (m : Miss) → MissFits (slot_count key_size s.keeper) m → short_for_write (miss_write k m) (length out) ≡ none
+    miss-gives : (m : Miss) → MissFits (slot_count key_size s.keeper) m → short_for_write (miss_write k m) (length out) ≡ None
         → Gives (decode_write key_size) WriteBytes (miss_gave (Outcome (as_struct (miss_outcome p k m))) (out_with (miss_write k m) out))
         (miss_write k m)
     unfolding gives_write
@@ -95,7 +95,7 @@ module _ {count : ℕ} {s : State} (f : Formed count s) where
   module _ (policy : List ℕ) (b : Bytes policy) (accepted : AcceptedBytes policy) (key : List ℕ) where
     -- a miss that is not refused uses the one policy
     missed-with : {out : List ℕ} {r : MissAnswer} {keeper' out' : List ℕ} → Missed policy key s.keeper out r keeper' out'
-        → miss_refused policy key s.keeper (length out) ≡ none
+        → miss_refused policy key s.keeper (length out) ≡ None
         → Stepped (policy_view policy) count s (after s (miss_call policy key out r keeper' out'))
     unfolding step meaning miss_refused
     missed-with {out} {r} {keeper'} {out'} is fine =
@@ -116,13 +116,13 @@ module _ {count : ℕ} {s : State} (f : Formed count s) where
 
     pub missed : (policy' : List ℕ) {out : List ℕ} {r : MissAnswer} {keeper' out' : List ℕ} → Missed policy' key s.keeper out r keeper' out'
         → (o : Option Refusal) → miss_refused policy' key s.keeper (length out) ≡ o
-        → (miss_refused policy' key s.keeper (length out) ≡ none → policy' ≡ policy)
+        → (miss_refused policy' key s.keeper (length out) ≡ None → policy' ≡ policy)
         → Stepped (policy_view policy) count s (after s (miss_call policy' key out r keeper' out'))
-    missed policy' is (some x) e uses =
+    missed policy' is (Some x) e uses =
         let refusal = rw e at is.answer in
         let left = rw e at is.keeper-after in
         rw (refusal, left) (stayed f)
-    missed policy' is none e uses = let q : policy' ≡ policy = uses e in missed-with (rw q at is) (rw q at e)
+    missed policy' is None e uses = let q : policy' ≡ policy = uses e in missed-with (rw q at is) (rw q at e)
 
   -- ---- a report
 
@@ -140,12 +140,12 @@ module _ {count : ℕ} {s : State} (f : Formed count s) where
 
   module _ (p : PolicyView) {m : List ℕ} {r : Verdict} {keeper' : List ℕ} (is : Reported s.keeper m r keeper') where
     -- a report that is not refused was given
-    reported-as : report_refused s.keeper m ≡ none → Memᴰ m s.reports → Stepped p count s (after s (report_call m r keeper'))
+    reported-as : report_refused s.keeper m ≡ None → Memᴰ m s.reports → Stepped p count s (after s (report_call m r keeper'))
     unfolding step meaning report_answer
     reported-as fine given =
         let h = f.reports-formed m given in
         let at = place_of decode_report s.reports m given in
-        let right : report_refusal k (decode_report m) ≡ none =
+        let right : report_refusal k (decode_report m) ≡ None =
         not-refused _ (sym (report-meaning s.keeper m (keeper-whole f) h.long h.kind h.zeroed) ∙ fine)
         in
         let taken = accepted-of s.keeper m refl (rw fine) in
@@ -153,10 +153,10 @@ module _ {count : ℕ} {s : State} (f : Formed count s) where
         record {
           event = report_arrives at.0;
           meant = rw (at.1, right) (same-world (rw fine at is.meaning) refl refl refl);
-          formed = keeper-formed f none (rw bytes (report-replaced m h taken.inside)) gives_none;
+          formed = keeper-formed f None (rw bytes (report-replaced m h taken.inside)) gives_none;
         }
 
-    pub reported : (o : Option Refusal) → report_refused s.keeper m ≡ o → (report_refused s.keeper m ≡ none → Memᴰ m s.reports)
+    pub reported : (o : Option Refusal) → report_refused s.keeper m ≡ o → (report_refused s.keeper m ≡ None → Memᴰ m s.reports)
         → Stepped p count s (after s (report_call m r keeper'))
-    reported (some x) e given = let left = rw e at is.keeper-after in rw left (stayed f)
-    reported none e given = reported-as e (given e)
+    reported (Some x) e given = let left = rw e at is.keeper-after in rw left (stayed f)
+    reported None e given = reported-as e (given e)

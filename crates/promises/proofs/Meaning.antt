@@ -1,7 +1,7 @@
 -- What a state's bytes mean in the model, and what holds of every state that a sequence of calls leads to. Assumes nothing.
 use mathlib.Core.Path.{◌≡◌, refl, ◌∙◌}
 use mathlib.Core.List.{List, map, Memᴰ}
-use mathlib.Core.Option.{Option}
+use Rattle.std.specs.Prelude.{Option}
 use Prim.Native.Nat.{ℕ, ◌+◌, ◌*◌, ◌≤◌, ◌<◌}
 use native.Mathlib.Omega.{arith}
 use lib.ListN.{length}

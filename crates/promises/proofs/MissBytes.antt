@@ -2,7 +2,7 @@
 use mathlib.Core.Path.{◌≡◌, refl, ◌∙◌}
 use mathlib.Core.Bool.{Bool, true, false}
 use mathlib.Core.List.{List}
-use mathlib.Core.Option.{Option, none, some}
+use Rattle.std.specs.Prelude.{Option, None, Some}
 use Prim.Native.Nat.{ℕ, ◌+◌, ◌*◌, ◌^◌, ◌≤◌, ◌<◌}
 use native.Mathlib.Omega.{arith}
 use lib.Dec.{ltb, eqb}
@@ -45,7 +45,7 @@ module _ {count : ℕ} {k : List Slot} (h : ByteSlots count k) where
   largest-low = largest-le k last_sequence sequence-low
 
   -- a slot that takes a key is one of them
-  pub held-inside : (key : Key) (i : ℕ) → first_for positions k key ≡ some i → i < count
+  pub held-inside : (key : Key) (i : ℕ) → first_for positions k key ≡ Some i → i < count
   held-inside key i e = omega (arith, (found positions k key i e).inside, h.long)
 
 -- the write of a slot that bytes can hold
@@ -91,7 +91,7 @@ module _ (policy : List ℕ) (h : Bytes policy) (is : AcceptedBytes policy) wher
         (two-below (rule_size key_size * r + rule_action key_size) policy h (omega (arith, is.whole)))
 
   module _ {count : ℕ} (ks : List Slot) (b : ByteSlots count ks) (one : 1 ≤ count) (key : List ℕ) where
-    next-byte : (r : ℕ) → best positions pol key ≡ some r → eqb (largest ks) last_sequence ≡ false
+    next-byte : (r : ℕ) → best positions pol key ≡ Some r → eqb (largest ks) last_sequence ≡ false
         → ByteSlot key_size (written (next_entry (policy_view policy) ks key r))
     unfolding isolate isolated_at
     next-byte r e u =
@@ -115,10 +115,10 @@ module _ (policy : List ℕ) (h : Bytes policy) (is : AcceptedBytes policy) wher
     fits-of : (found-best at : Option ℕ) (used : Bool) → best positions pol key ≡ found-best → first_for positions ks key ≡ at
         → eqb (largest ks) last_sequence ≡ used
         → MissFits count (miss_of found-best at used (slot_for_entry ks) (next_entry (policy_view policy) ks key))
-    fits-of none at used e f u = tt
-    fits-of (some r) (some i) used e f u = held-inside b key i f
-    fits-of (some r) none true e f u = tt
-    fits-of (some r) none false e f u =
+    fits-of None at used e f u = tt
+    fits-of (Some r) (Some i) used e f u = held-inside b key i f
+    fits-of (Some r) None true e f u = tt
+    fits-of (Some r) None false e f u =
         (omega (arith, slot-for-entry-lt ks (omega (arith, b.long)), b.long), next-byte r e u)
 
     pub miss-fits : MissFits count (on_miss positions (policy_view policy) ks key)

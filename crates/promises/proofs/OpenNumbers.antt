@@ -2,7 +2,7 @@
 use mathlib.Core.Path.{◌≡◌, refl, ◌∙◌}
 use mathlib.Core.Bool.{true}
 use mathlib.Core.List.{List, [], ◌∷◌}
-use mathlib.Core.Option.{none}
+use Rattle.std.specs.Prelude.{None}
 use Prim.Native.Nat.{ℕ, ◌*◌, ◌<◌}
 use native.Mathlib.Omega.{arith}
 use lib.ListN.{length}
@@ -24,7 +24,7 @@ empty-list (x ∷ xs) e = absurd (omega arith)
 
 module _ (keeper : List ℕ) (n : ℕ) (out out' : List ℕ) (is : Opened keeper out (Count n) out') where
   -- it is not refused, and says how many slots are open
-  pub open-fine : (open_refusal keeper (length out) ≡ none) × (n ≡ length (open_in keeper))
+  pub open-fine : (open_refusal keeper (length out) ≡ None) × (n ≡ length (open_in keeper))
   open-fine = count-given (open_refusal keeper (length out)) (length (open_in keeper)) is.answer refl
 
   -- an open slot is one of the numbers that it wrote

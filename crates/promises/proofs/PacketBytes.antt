@@ -1,7 +1,7 @@
 -- The packets of a run leave slots that bytes can hold at both ends, as many as before. Assumes nothing.
 use mathlib.Core.Path.{◌≡◌, refl}
 use mathlib.Core.List.{List, [], ◌∷◌}
-use mathlib.Core.Option.{Option, none, some}
+use Rattle.std.specs.Prelude.{Option, None, Some}
 use Prim.Native.Nat.{ℕ, ◌^◌, ◌≤◌, ◌<◌}
 use native.Mathlib.Omega.{arith}
 use lib.ListN.{set}
@@ -28,8 +28,8 @@ module _ {count : ℕ} where
 
   reported-byte : (k : List Slot) (r : Report) (o : Option ℕ) → ByteSlots count k → r.hits < 2 ^ 32 → ByteSlots count (reported_to k r o)
   unfolding after_report
-  reported-byte k r (some refusal) h low = h
-  reported-byte k r none h low =
+  reported-byte k r (Some refusal) h low = h
+  reported-byte k r None h low =
       cond-elim (ByteSlots count) (is_current k r)
       (λ e. set-byte h r.slot _ (λ l. confirmed-byte key_size _ _ (h.each r.slot l) low))
       (λ e. h)
@@ -42,8 +42,8 @@ module _ {count : ℕ} where
 
     written_byte : (o : Option ℕ) → ByteEnds count (written_to k t x o)
     unfolding write_report
-    written_byte (some refusal) = record { keeper = h; table = g }
-    written_byte none =
+    written_byte (Some refusal) = record { keeper = h; table = g }
+    written_byte None =
         record {
           keeper = reported-byte k (write_report t x) (report_refusal k (write_report t x)) h (hits-low after-byte x.slot);
           table = after-byte;
@@ -67,10 +67,10 @@ module _ {count : ℕ} where
   module _ (policy : List ℕ) (b : Bytes policy) (accepted : AcceptedBytes policy) (one : 1 ≤ count) where
     packet-byte : (e : Ends) (key : Key) → ByteEnds count e → (at : Option ℕ) → first_for positions e.table key ≡ at
         → ByteEnds count (packet_ends positions (policy_view policy) e.keeper e.table key at)
-    packet-byte e key h none q =
+    packet-byte e key h None q =
         missed-byte e.keeper e.table h.keeper h.table (on_miss positions (policy_view policy) e.keeper key)
         (miss-fits policy b accepted e.keeper h.keeper one key)
-    packet-byte e key h (some i) q =
+    packet-byte e key h (Some i) q =
         let l = held-inside h.table key i q in
         let hit = counted-byte key_size (slot_at e.table i) (h.table.each i l) in
         let r : Report = report_for i (counted (slot_at e.table i)) in

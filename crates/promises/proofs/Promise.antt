@@ -4,7 +4,7 @@ use mathlib.Core.Path.{◌≡◌, refl, sym, ap, ◌∙◌}
 use mathlib.Core.Logic.{◌≢◌}
 use mathlib.Core.List.Memᴰ
 use mathlib.Core.List.{List, [], ◌∷◌, Memᴰ}
-use mathlib.Core.Option.{Option, none, some}
+use Rattle.std.specs.Prelude.{Option, None, Some}
 use Prim.Native.Nat.{ℕ, ◌*◌, ◌≤◌, ◌<◌}
 use native.Mathlib.Omega.{arith}
 use lib.ListN.{length, take}
@@ -59,7 +59,7 @@ use Rattle.promises.proofs.OpenNumbers.{empty-list, open-fine, open-listed}
 
 -- ---- what the model keeps, of the bytes
 
-module _ (policy : List ℕ) (fine : policy_refusal policy ≡ none) {count : ℕ} {s : State} (f : Formed count s)
+module _ (policy : List ℕ) (fine : policy_refusal policy ≡ None) {count : ℕ} {s : State} (f : Formed count s)
     (kept : Kept positions (policy_view policy) (meaning s)) where
   abbrev k : List Slot
   k = slots key_size s.keeper
@@ -68,10 +68,10 @@ module _ (policy : List ℕ) (fine : policy_refusal policy ≡ none) {count : �
   t = slots key_size s.table
 
   best-here : (key : List ℕ) → length key ≡ key_size → (o : Option Hit) → lookup positions t key ≡ o
-      → MissOrBest (lookup_answer_of none o) (best_answer policy key)
+      → MissOrBest (lookup_answer_of None o) (best_answer policy key)
   unfolding best_answer best_refusal best_found key_refusal meaning
-  best-here key l none e = tt
-  best-here key l (some h) e = rw (fine, eq-eqb (length key) key_size l, kept.rule key h e, kept.action key h e)
+  best-here key l None e = tt
+  best-here key l (Some h) e = rw (fine, eq-eqb (length key) key_size l, kept.rule key h e, kept.action key h e)
 
   looked-best : (key : List ℕ) (out_len : ℕ) → length key ≡ key_size → report_size ≤ out_len
       → MissOrBest (lookup_answer key s.table out_len) (best_answer policy key)
@@ -80,7 +80,7 @@ module _ (policy : List ℕ) (fine : policy_refusal policy ≡ none) {count : �
       rw ((good-lookup key s.table out_len).1 (record { long = l; whole = table-whole f; fits = λ i e. fits }))
       (best-here key l (lookup positions t key) refl)
 
-  opens : (out_len : ℕ) → 2 * count ≤ out_len → open_refusal s.keeper out_len ≡ none
+  opens : (out_len : ℕ) → 2 * count ≤ out_len → open_refusal s.keeper out_len ≡ None
   unfolding open_refusal
   opens out_len l =
       let xs : List ℕ = open_in s.keeper in
@@ -110,14 +110,14 @@ module _ (policy : List ℕ) (fine : policy_refusal policy ≡ none) {count : �
       let none_open : open_in s.keeper ≡ [] = empty-list (open_in s.keeper) (open-fine s.keeper 0 out out' is).1 in
       sym (keeper-entry i l) ∙ kept.same none_open i ∙ table-entry i l
 
-  writes-taken : (m : List ℕ) → Memᴰ m s.writes → (out_len : ℕ) → report_size ≤ out_len → write_call_refusal s.table m out_len ≡ none
+  writes-taken : (m : List ℕ) → Memᴰ m s.writes → (out_len : ℕ) → report_size ≤ out_len → write_call_refusal s.table m out_len ≡ None
   unfolding meaning
   writes-taken m given out_len fits =
       let h = f.writes-formed m given in
       taken_here s.table m out_len (table-whole f) h.long h.kind h.zeros
       (kept.writes_taken (decode_write key_size m) (Memᴰ.map (decode_write key_size) given)) fits
 
-  reports-taken : (m : List ℕ) → Memᴰ m s.reports → report_refused s.keeper m ≡ none
+  reports-taken : (m : List ℕ) → Memᴰ m s.reports → report_refused s.keeper m ≡ None
   unfolding meaning
   reports-taken m given =
       let h = f.reports-formed m given in
@@ -137,7 +137,7 @@ module _ (policy : List ℕ) (fine : policy_refusal policy ≡ none) {count : �
 
 -- ---- at every point
 
-module _ (policy : List ℕ) (b : Bytes policy) (fine : policy_refusal policy ≡ none) where
+module _ (policy : List ℕ) (b : Bytes policy) (fine : policy_refusal policy ≡ None) where
   abbrev p : PolicyView
   p = policy_view policy
 

@@ -1,7 +1,7 @@
 -- What a call does to the state: it is one event of the model, or it is a run, which is several. Assumes nothing.
 use mathlib.Core.Path.{◌≡◌, ap, sym, ◌∙◌}
 use mathlib.Core.List.{List}
-use mathlib.Core.Option.{Option, none, some}
+use Rattle.std.specs.Prelude.{Option, None, Some}
 use Prim.Native.Nat.{ℕ, ◌*◌}
 use lib.ListN.{length}
 use Rattle.model.specs.Bits.{Bytes}
@@ -38,7 +38,7 @@ by-event {p} {count} {s} {s'} is =
 module _ (policy : List ℕ) (b : Bytes policy) (accepted : AcceptedBytes policy) {count : ℕ} {s : State} (f : Formed count s) where
   module _ {trace out : List ℕ} {t : Totals} {r : Ran} {table' keeper' out' : List ℕ}
       (is : RunIs policy trace s.table s.keeper out t r table' keeper' out')
-      (fine : run_refusal policy trace s.table s.keeper (length out) t ≡ none) where
+      (fine : run_refusal policy trace s.table s.keeper (length out) t ≡ None) where
     abbrev ends : Ends
     ends = ends_of policy trace s.table s.keeper
 
@@ -82,12 +82,12 @@ module _ (policy : List ℕ) (b : Bytes policy) (accepted : AcceptedBytes policy
   pub ran : (policy' : List ℕ) {trace out : List ℕ} {t : Totals} {r : Ran} {table' keeper' out' : List ℕ}
       → RunIs policy' trace s.table s.keeper out t r table' keeper' out'
       → (o : Option Refusal) → run_refusal policy' trace s.table s.keeper (length out) t ≡ o
-      → (run_refusal policy' trace s.table s.keeper (length out) t ≡ none → policy' ≡ policy)
+      → (run_refusal policy' trace s.table s.keeper (length out) t ≡ None → policy' ≡ policy)
       → Next (policy_view policy) count s (after s (run_call policy' trace out t r table' keeper' out'))
   unfolding run_of
-  ran policy' is (some x) e uses =
+  ran policy' is (Some x) e uses =
       let shown = rw e at is.whole in
       rw (ap (λ (x : RunResult). x.table) shown, ap (λ (x : RunResult). x.keeper) shown) (by-event (stayed f))
-  ran policy' is none e uses =
+  ran policy' is None e uses =
       let q : policy' ≡ policy = uses e in
       record { formed = run-formed (rw q at is) (rw q at e); grown = run-grown (rw q at is) (rw q at e) }

@@ -1,7 +1,7 @@
 -- The table's calls as events: a lookup is a packet, a write that is not refused is one that arrives. Assumes nothing.
 use mathlib.Core.Path.{◌≡◌, refl, ◌∙◌}
 use mathlib.Core.List.{List, Memᴰ}
-use mathlib.Core.Option.{Option, none, some}
+use Rattle.std.specs.Prelude.{Option, None, Some}
 use Prim.Native.Nat.{ℕ, ◌<◌}
 use native.Mathlib.Omega.{arith}
 use lib.ListN.{length}
@@ -40,11 +40,11 @@ module _ (p : PolicyView) {count : ℕ} {s : State} (f : Formed count s) where
         let b = after_lookup_lem s.table f.table-bytes key (length out) in
         rw is.table-after (record { long = b.long; bytes = b.bytes })
 
-    lookup-gives : (at : Option ℕ) → first_for positions t key ≡ at → lookup_refusal key s.table (length out) ≡ none
+    lookup-gives : (at : Option ℕ) → first_for positions t key ≡ at → lookup_refusal key s.table (length out) ≡ None
         → Gives decode_report ReportBytes (lookup_gave r out') (hit_report (hit_at t at))
     unfolding lookup
-    lookup-gives none e fine = rw ((looked-up is fine).0, e) gives_none
-    lookup-gives (some i) e fine =
+    lookup-gives None e fine = rw ((looked-up is fine).0, e) gives_none
+    lookup-gives (Some i) e fine =
         let a = looked-up is fine in
         let l = held_below s.table key i e in
         let x : Report = report_for i (counted (slot_at t i)) in
@@ -57,11 +57,11 @@ module _ (p : PolicyView) {count : ℕ} {s : State} (f : Formed count s) where
     pub looked : (o : Option Refusal) → lookup_refusal key s.table (length out) ≡ o
         → Stepped p count s (after s (lookup_call key out r table' out'))
     unfolding step meaning lookup lookup_answer table_after_lookup
-    looked (some x) e =
+    looked (Some x) e =
         let refusal = rw e at is.answer in
         let left = rw e at is.table-after in
         rw (refusal, left) (stayed f)
-    looked none e =
+    looked None e =
         let gives = lookup-gives (first_for positions t key) refl e in
         record {
           event = packet key;
@@ -71,13 +71,13 @@ module _ (p : PolicyView) {count : ℕ} {s : State} (f : Formed count s) where
 
   module _ {m out : List ℕ} {r : Verdict} {table' out' : List ℕ} (is : Received s.table m out r table' out') where
     -- a write that is not refused was given
-    module _ (fine : write_call_refusal s.table m (length out) ≡ none) (given : Memᴰ m s.writes) where
+    module _ (fine : write_call_refusal s.table m (length out) ≡ None) (given : Memᴰ m s.writes) where
       write-replaced : Replaced s.table table'
       write-replaced =
           let b = after_write_lem s.table f.table-bytes m (f.writes-formed m given).bytes (length out) in
           rw is.table-after (record { long = b.long; bytes = b.bytes })
 
-      write-gives : Gives decode_report ReportBytes (write_gave r out') (some (write_report t (decode_write key_size m)))
+      write-gives : Gives decode_report ReportBytes (write_gave r out') (Some (write_report t (decode_write key_size m)))
       unfolding write_report
       write-gives =
           let a = received is fine in
@@ -103,11 +103,11 @@ module _ (p : PolicyView) {count : ℕ} {s : State} (f : Formed count s) where
           }
 
     pub wrote : (o : Option Refusal) → write_call_refusal s.table m (length out) ≡ o
-        → (write_call_refusal s.table m (length out) ≡ none → Memᴰ m s.writes)
+        → (write_call_refusal s.table m (length out) ≡ None → Memᴰ m s.writes)
         → Stepped p count s (after s (write_call m out r table' out'))
     unfolding table_after_write
-    wrote (some x) e given =
+    wrote (Some x) e given =
         let refusal = rw e at is.answer in
         let left = rw e at is.table-after in
         rw (refusal, left) (stayed f)
-    wrote none e given = took e (given e)
+    wrote None e given = took e (given e)

@@ -1,6 +1,5 @@
 -- No call is shut out from the sequences. Assumes nothing.
-use Rattle.std.specs.Prelude.{◌≡◌, List, ℕ, ◌≤◌}
-use Rattle.std.proofs.Math.Option.{none}
+use Rattle.std.specs.Prelude.{◌≡◌, List, ℕ, ◌≤◌, None}
 use Rattle.model.specs.Bits.{Bytes}
 use Rattle.ends.specs.Records.{Totals}
 use Rattle.records.specs.Layout.{most_slots}
@@ -32,5 +31,5 @@ pub record AnyCall (s : State) : Type 0 where
 
 -- at every point of every sequence of calls
 abbrev pub AnyCallPromise : Type 0
-AnyCallPromise = (policy : List ℕ) → Bytes policy → policy_refusal policy ≡ none → (count : ℕ) → 1 ≤ count → count ≤ most_slots
+AnyCallPromise = (policy : List ℕ) → Bytes policy → policy_refusal policy ≡ None → (count : ℕ) → 1 ≤ count → count ≤ most_slots
     → (calls : List Call) → Sequence policy (cleared_ends count) calls → Throughout AnyCall (cleared_ends count) calls

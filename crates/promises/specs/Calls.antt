@@ -1,8 +1,7 @@
 -- The two ends' bytes and the link between them: calls with any arguments, one after the other, trace runs among them. Each message that an
 -- accepted call gave is kept, so it may arrive at any later time, in any order, any number of times, or never. Assumes nothing.
-use Rattle.std.specs.Prelude.{◌≡◌, cond, ℕ, ◌*◌, length, take, replicate}
+use Rattle.std.specs.Prelude.{◌≡◌, cond, ℕ, ◌*◌, length, take, replicate, Option, None, Some}
 use mathlib.Core.List.{List, [], ◌∷◌, Memᴰ}
-use Rattle.std.proofs.Math.Option.{Option, none, some}
 use Rattle.ends.specs.Records.{Totals}
 use Rattle.ends.specs.World.{sent}
 use Rattle.ternary.specs.Sizes.{key_size}
@@ -66,25 +65,25 @@ Promised s (run policy trace out t r table' keeper' out') = RunIs policy trace s
 -- what the link and the agent do: a message that is not refused was given before, and a miss or a run that is not refused uses the one policy
 abbrev pub Linked : List ℕ → State → Call → Type 0
 Linked one s (lookup key out r table' out') = Unit {0}
-Linked one s (write m out r table' out') = write_call_refusal s.table m (length out) ≡ none → Memᴰ m s.writes
-Linked one s (miss policy key out r keeper' out') = miss_refused policy key s.keeper (length out) ≡ none → policy ≡ one
-Linked one s (report m r keeper') = report_refused s.keeper m ≡ none → Memᴰ m s.reports
+Linked one s (write m out r table' out') = write_call_refusal s.table m (length out) ≡ None → Memᴰ m s.writes
+Linked one s (miss policy key out r keeper' out') = miss_refused policy key s.keeper (length out) ≡ None → policy ≡ one
+Linked one s (report m r keeper') = report_refused s.keeper m ≡ None → Memᴰ m s.reports
 Linked one s (open_slots out r out') = Unit {0}
-Linked one s (run policy trace out t r table' keeper' out') = run_refusal policy trace s.table s.keeper (length out) t ≡ none → policy ≡ one
+Linked one s (run policy trace out t r table' keeper' out') = run_refusal policy trace s.table s.keeper (length out) t ≡ None → policy ≡ one
 
 -- the message that a call gave, by its answer: the first bytes of the output after it
 abbrev pub lookup_gave : LookupAnswer → List ℕ → Option (List ℕ)
-lookup_gave (LookupRefused r) out = none
-lookup_gave Miss out = none
-lookup_gave (Hit slot rule action) out = some (take report_size out)
+lookup_gave (LookupRefused r) out = None
+lookup_gave Miss out = None
+lookup_gave (Hit slot rule action) out = Some (take report_size out)
 
 abbrev pub write_gave : Verdict → List ℕ → Option (List ℕ)
-write_gave (WriteRefused r) out = none
-write_gave Fine out = some (take report_size out)
+write_gave (WriteRefused r) out = None
+write_gave Fine out = Some (take report_size out)
 
 abbrev pub miss_gave : MissAnswer → List ℕ → Option (List ℕ)
-miss_gave (MissRefused r) out = none
-miss_gave (Outcome x) out = cond (gives_write x.outcome) (some (take (write_size key_size) out)) none
+miss_gave (MissRefused r) out = None
+miss_gave (Outcome x) out = cond (gives_write x.outcome) (Some (take (write_size key_size) out)) None
 
 -- the state after it; the messages inside a run are delivered at once, and are not among those given
 abbrev pub after : State → Call → State

@@ -1,7 +1,6 @@
 -- Demand 3 about bytes: what holds of the two ends' buffers at every point of every sequence of calls. Assumes nothing.
-use Rattle.std.specs.Prelude.{◌≡◌, ◌≢◌, ℕ, ◌*◌, ◌≤◌, ◌<◌, length}
+use Rattle.std.specs.Prelude.{◌≡◌, ◌≢◌, ℕ, ◌*◌, ◌≤◌, ◌<◌, length, None}
 use mathlib.Core.List.{List, Memᴰ}
-use Rattle.std.proofs.Math.Option.{none}
 use Rattle.model.specs.Bits.{Bytes}
 use Rattle.ends.specs.Records.{Entry, entry_of}
 use Rattle.ternary.specs.Sizes.{key_size}
@@ -38,7 +37,7 @@ pub record KeptBytes (policy : List ℕ) (count : ℕ) (s : State) : Type 0 wher
   pub best : (key : List ℕ) (out_len : ℕ) → length key ≡ key_size → report_size ≤ out_len
       → MissOrBest (lookup_answer key s.table out_len) (best_answer policy key)
   -- the open call is not refused where the output has room for every slot's number
-  pub opens : (out_len : ℕ) → 2 * count ≤ out_len → open_refusal s.keeper out_len ≡ none
+  pub opens : (out_len : ℕ) → 2 * count ≤ out_len → open_refusal s.keeper out_len ≡ None
   -- a slot whose bytes decode to different entries at the two ends is one of the numbers that it wrote
   pub differs : (i : ℕ) → i < count → entry_of_bytes s.keeper i ≢ entry_of_bytes s.table i
       → (n : ℕ) (out out' : List ℕ) → Opened s.keeper out (Count n) out' → (j : ℕ) × (j < n) × (be (part 2 (2 * j) out') ≡ i)
@@ -46,10 +45,10 @@ pub record KeptBytes (policy : List ℕ) (count : ℕ) (s : State) : Type 0 wher
   pub same : (out out' : List ℕ) → Opened s.keeper out (Count 0) out'
       → (i : ℕ) → i < count → entry_of_bytes s.keeper i ≡ entry_of_bytes s.table i
   -- no message that was given is refused, where the output has room for a report
-  pub writes_taken : (m : List ℕ) → Memᴰ m s.writes → (out_len : ℕ) → report_size ≤ out_len → write_call_refusal s.table m out_len ≡ none
-  pub reports_taken : (m : List ℕ) → Memᴰ m s.reports → report_refused s.keeper m ≡ none
+  pub writes_taken : (m : List ℕ) → Memᴰ m s.writes → (out_len : ℕ) → report_size ≤ out_len → write_call_refusal s.table m out_len ≡ None
+  pub reports_taken : (m : List ℕ) → Memᴰ m s.reports → report_refused s.keeper m ≡ None
 
 -- For every policy that the check does not refuse, 1 to 256 slots, and every sequence of calls from cleared ends, runs among them: at every point.
 abbrev pub LinkPromise : Type 0
-LinkPromise = (policy : List ℕ) → Bytes policy → policy_refusal policy ≡ none → (count : ℕ) → 1 ≤ count → count ≤ most_slots
+LinkPromise = (policy : List ℕ) → Bytes policy → policy_refusal policy ≡ None → (count : ℕ) → 1 ≤ count → count ≤ most_slots
     → (calls : List Call) → Sequence policy (cleared_ends count) calls → Throughout (KeptBytes policy count) (cleared_ends count) calls

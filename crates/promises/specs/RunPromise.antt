@@ -1,6 +1,5 @@
 -- Demand 3 about runs: from ends grown from cleared ones neither end refuses within a run. Assumes nothing.
-use Rattle.std.specs.Prelude.{◌≡◌, List, ℕ, ◌≤◌, ◌<◌, take}
-use Rattle.std.proofs.Math.Option.{none}
+use Rattle.std.specs.Prelude.{◌≡◌, List, ℕ, ◌≤◌, ◌<◌, take, None}
 use Rattle.model.specs.Bits.{Bytes}
 use Rattle.ends.specs.Trace.{Ends}
 use Rattle.ends.specs.TraceLink.{NoInnerRefusal}
@@ -23,5 +22,5 @@ pub record QuietRuns (policy : List ℕ) (s : State) : Type 0 where
 
 -- For every policy that the check does not refuse, 1 to 256 slots, and every sequence of calls from cleared ends, runs among them: at every point.
 abbrev pub RunPromise : Type 0
-RunPromise = (policy : List ℕ) → Bytes policy → policy_refusal policy ≡ none → (count : ℕ) → 1 ≤ count → count ≤ most_slots
+RunPromise = (policy : List ℕ) → Bytes policy → policy_refusal policy ≡ None → (count : ℕ) → 1 ≤ count → count ≤ most_slots
     → (calls : List Call) → Sequence policy (cleared_ends count) calls → Throughout (QuietRuns policy) (cleared_ends count) calls

@@ -1,7 +1,7 @@
 -- A run from cleared ends: how it is refused, and what its output and totals say. Assumes nothing.
 use mathlib.Core.Path.{◌≡◌, refl, sym, ap, ◌∙◌}
 use mathlib.Core.List.{List, ◌∷◌, map}
-use mathlib.Core.Option.{none, some}
+use Rattle.std.specs.Prelude.{None, Some}
 use Prim.Native.Nat.{ℕ, zero, suc, ◌*◌, ◌≤◌}
 use native.Mathlib.Nat.{le_of_suc-le-suc}
 use native.Mathlib.Omega.{arith}
@@ -41,11 +41,11 @@ abbrev output_room : ℕ
 output_room = outcome_size * most_packets
 
 module _ (n : ℕ) (some-there : 1 ≤ n) (few-there : n ≤ most_slots) where
-  end-accepted : slots_refusal (cleared_end n) ≡ none
+  end-accepted : slots_refusal (cleared_end n) ≡ None
   end-accepted =
       (slots-accepted (cleared_end n)).1 (whole-slots (cleared_end n) n (length-replicate (slot_size key_size * n) 0) some-there few-there)
 
-  ends-accepted : ends_refusal (cleared_end n) (cleared_end n) ≡ none
+  ends-accepted : ends_refusal (cleared_end n) (cleared_end n) ≡ None
   unfolding ends_refusal
   ends-accepted = rw (end-accepted, eq-eqb (length (cleared_end n)) (length (cleared_end n)) refl)
 
@@ -86,14 +86,14 @@ module _ (n : ℕ) (some-there : 1 ≤ n) (few-there : n ≤ most_slots) (policy
   refused-same : run_refusal policy trace (cleared_end n) (cleared_end n) (length out) cleared_totals ≡ call_refusal policy trace
   refused-same = rw room (call-refusal n some-there few-there policy trace short)
 
-  cleared-refused : {r : Refusal} → ran.answer ≡ Refused r → call_refusal policy trace ≡ some r
+  cleared-refused : {r : Refusal} → ran.answer ≡ Refused r → call_refusal policy trace ≡ Some r
   cleared-refused e = sym refused-same ∙ refused-by cleared_totals call made e
 
   module _ {k : ℕ} (e : ran.answer ≡ Count k) where
     accepted : AcceptedRun cleared_totals call k
     accepted = accepted-run cleared_totals call made e
 
-    cleared-fine : call_refusal policy trace ≡ none
+    cleared-fine : call_refusal policy trace ≡ None
     cleared-fine = sym refused-same ∙ accepted.fine
 
     cleared-few : k ≤ most_packets

@@ -1,7 +1,7 @@
 -- What the answer about the files says, where they are taken and where they are refused. Assumes nothing.
 use mathlib.Core.Path.{◌≡◌, refl}
 use mathlib.Core.List.{List}
-use mathlib.Core.Option.{none, some}
+use Rattle.std.specs.Prelude.{None, Some}
 use Prim.Native.Nat.{ℕ, ◌≤◌}
 use native.Mathlib.Omega.{arith}
 use borrow.Author.Tests.{leb-true}
@@ -19,14 +19,14 @@ use Rattle.text.proofs.SlotsTextLaws.{slots-few}
 
 -- three files that are taken
 pub record Taken (slots policy trace : List ℕ) (n : ℕ) : Type 0 where
-  pub fine : file_refusal slots policy trace ≡ none
+  pub fine : file_refusal slots policy trace ≡ None
   pub count : n ≡ slots_in slots
   pub some-there : 1 ≤ n
   pub few-there : n ≤ most_slots
   pub trace-short : length trace ≤ most_trace_bytes
 
 module _ (slots policy trace : List ℕ) where
-  pub files-refused : {r : Refusal} → file_answer slots policy trace ≡ Refused r → file_refusal slots policy trace ≡ some r
+  pub files-refused : {r : Refusal} → file_answer slots policy trace ≡ Refused r → file_refusal slots policy trace ≡ Some r
   unfolding file_answer
   files-refused e = count-refused (file_refusal slots policy trace) (slots_in slots) refl e
 
@@ -34,11 +34,11 @@ module _ (slots policy trace : List ℕ) where
   unfolding file_answer file_refusal
   files-taken {n} e =
       let of = count-given (file_refusal slots policy trace) (slots_in slots) refl e in
-      let trace-test = need (leb (length trace) most_trace_bytes) too_many none in
+      let trace-test = need (leb (length trace) most_trace_bytes) too_many None in
       let policy-test = need (leb (length policy) most_policy_bytes) too_many trace-test in
       let first = need-none (leb 1 (slots_in slots)) bad_slots policy-test of.0 in
       let second = need-none (leb (length policy) most_policy_bytes) too_many trace-test first.1 in
-      let third = need-none (leb (length trace) most_trace_bytes) too_many none second.1 in
+      let third = need-none (leb (length trace) most_trace_bytes) too_many None second.1 in
       record {
         fine = of.0;
         count = of.1;

@@ -1,7 +1,7 @@
 -- What a run came to, written to an output. Assumes nothing.
 use mathlib.Core.Path.{◌≡◌, sym, ◌∙◌}
 use mathlib.Core.List.{List, ◌++◌}
-use mathlib.Core.Option.{some}
+use Rattle.std.specs.Prelude.{Some}
 use Prim.Native.Nat.{ℕ}
 use Rattle.ends.specs.Records.{Totals}
 use Rattle.checks.specs.declared.refusal.Refusal.{Refusal}
@@ -23,7 +23,7 @@ module _ {a : CountAnswer} (t : Totals) (records : List ℕ) {out : List ℕ} {m
   packets-put e p = rw e p
 
 module _ (slots policy trace : List ℕ) where
-  refused-text : {r : Refusal} → file_refusal slots policy trace ≡ some r → refusal_line r.number r.place ≡ text_of_replay slots policy trace
+  refused-text : {r : Refusal} → file_refusal slots policy trace ≡ Some r → refusal_line r.number r.place ≡ text_of_replay slots policy trace
   unfolding text_of_replay
   refused-text e = rw e
 

@@ -1,6 +1,5 @@
 -- What the sizes of the program's files and slots.txt come to, before any other test. Assumes nothing.
-use Rattle.std.specs.Prelude.{List, ℕ, ◌*◌, leb, length}
-use Rattle.std.proofs.Math.Option.{Option, none}
+use Rattle.std.specs.Prelude.{List, ℕ, ◌*◌, leb, length, Option, None}
 use Rattle.model.specs.Refusals.{too_many, bad_slots}
 use Rattle.ternary.specs.Sizes.{key_size}
 use Rattle.records.specs.Layout.{rule_size, trace_size, most_rules, most_packets}
@@ -22,7 +21,7 @@ file_refusal slots policy trace =
     need (leb 1 (slots_in slots)) bad_slots
     (need (leb (length policy) most_policy_bytes) too_many
     (need (leb (length trace) most_trace_bytes) too_many
-    none))
+    None))
 
 unfoldable pub file_answer : List ℕ → List ℕ → List ℕ → CountAnswer
 file_answer slots policy trace = count_answer_of (file_refusal slots policy trace) (slots_in slots)

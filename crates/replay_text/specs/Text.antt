@@ -1,6 +1,5 @@
 -- What the program prints, from the bytes of its three files. Assumes nothing.
-use Rattle.std.specs.Prelude.{◌≡◌, List, ◌++◌, map, ℕ, ◌+◌, ◌*◌, ◌≤◌, replicate}
-use Rattle.std.proofs.Math.Option.{Option, none, some}
+use Rattle.std.specs.Prelude.{◌≡◌, List, ◌++◌, map, ℕ, ◌+◌, ◌*◌, ◌≤◌, replicate, Option, None, Some}
 use Rattle.ends.specs.Records.{Outcome, Totals}
 use Rattle.ends.specs.Totals.{cleared_totals, totals_after}
 use Rattle.ternary.specs.Sizes.{key_size}
@@ -44,8 +43,8 @@ call_refusal policy trace = or_else (policy_refusal policy) (trace_refusal trace
 
 -- the refusal's line alone, or the run
 abbrev pub text_for : Option Refusal → List Outcome → List ℕ
-text_for (some r) xs = refusal_line r.number r.place
-text_for none xs = run_text xs
+text_for (Some r) xs = refusal_line r.number r.place
+text_for None xs = run_text xs
 
 -- slots.txt 4; policy file 2; trace file 2; then the library's order
 unfoldable pub text_of_replay : List ℕ → List ℕ → List ℕ → List ℕ

@@ -1,7 +1,7 @@
 -- The table looks the packet's key up: a hit, whose report goes to the keeper, or a miss. Assumes nothing.
 use mathlib.Core.Path.{◌≡◌, refl, sym, ap, ◌∙◌}
 use mathlib.Core.List.{List}
-use mathlib.Core.Option.{Option, none, some}
+use Rattle.std.specs.Prelude.{Option, None, Some}
 use Prim.Native.Nat.{ℕ, ◌<◌}
 use native.Mathlib.Omega.{arith}
 use lib.ListN.{length}
@@ -34,17 +34,17 @@ module _ {policy key table keeper out table' out' : List ℕ} {r : LookupAnswer}
   t = slots key_size table
 
   -- the lookup is not refused
-  open-to : lookup_refusal key table (length out) ≡ none
+  open-to : lookup_refusal key table (length out) ≡ None
   open-to =
       (good-lookup key table (length out)).1
       (record { long = fine.fine.long; whole = fine.table-whole; fits = λ i e. omega arith })
 
   -- ---- a hit
 
-  found_in : {slot rule action : ℕ} (f : Option ℕ) → Hit slot rule action ≡ lookup_answer_of none (hit_at t f)
-      → (f ≡ some slot) × (rule ≡ (slot_at t slot).rule) × (action ≡ (slot_at t slot).action)
-  found_in {slot} none e = let z : ◌≡◌ {A = ℕ} 0 1 = cc in absurd (omega arith)
-  found_in {slot} (some i) e = let s : i ≡ slot = cc in (ap some s, rw (← s) cc, rw (← s) cc)
+  found_in : {slot rule action : ℕ} (f : Option ℕ) → Hit slot rule action ≡ lookup_answer_of None (hit_at t f)
+      → (f ≡ Some slot) × (rule ≡ (slot_at t slot).rule) × (action ≡ (slot_at t slot).action)
+  found_in {slot} None e = let z : ◌≡◌ {A = ℕ} 0 1 = cc in absurd (omega arith)
+  found_in {slot} (Some i) e = let s : i ≡ slot = cc in (ap Some s, rw (← s) cc, rw (← s) cc)
 
   pub packet-hit : {slot rule action : ℕ} {keeper' : List ℕ} {a : Verdict} → r ≡ Hit slot rule action → length table' ≡ length table
       → Bytes table' → Reported keeper out' a keeper'
@@ -56,7 +56,7 @@ module _ {policy key table keeper out table' out' : List ℕ} {r : LookupAnswer}
       let at = found_in (first_for positions t key) (sym e ∙ did.0) in
       let x : Slot = counted (slot_at t slot) in
       let inside = (found positions t key slot at.0).inside in
-      let after : slots key_size table' ≡ counted_at t (some slot) = rw at.0 at did.1 in
+      let after : slots key_size table' ≡ counted_at t (Some slot) = rw at.0 at did.1 in
       let below : slot < slot_count key_size table' = omega (arith, l, slot-count key_size table) in
       let there : slot_at (slots key_size table') slot ≡ x = rw after (get_or-set_same t slot x (cleared 0) inside) in
       let fits : ReportFits (report_for slot x) = rw there at (told-fits table' slot h (as-whole l fine.table-whole) below) in
@@ -70,12 +70,12 @@ module _ {policy key table keeper out table' out' : List ℕ} {r : LookupAnswer}
 
   -- ---- a miss
 
-  nowhere : (f : Option ℕ) → r ≡ lookup_answer_of none (hit_at t f) → ((slot rule action : ℕ) → r ≡ Hit slot rule action → ◌≡◌ {A = ℕ} 0 1) → f ≡ none
-  nowhere none e no_hit = refl
-  nowhere (some i) e no_hit = let z : ◌≡◌ {A = ℕ} 0 1 = no_hit i _ _ e in absurd (omega arith)
+  nowhere : (f : Option ℕ) → r ≡ lookup_answer_of None (hit_at t f) → ((slot rule action : ℕ) → r ≡ Hit slot rule action → ◌≡◌ {A = ℕ} 0 1) → f ≡ None
+  nowhere None e no_hit = refl
+  nowhere (Some i) e no_hit = let z : ◌≡◌ {A = ℕ} 0 1 = no_hit i _ _ e in absurd (omega arith)
 
   module _ (no_hit : (slot rule action : ℕ) → r ≡ Hit slot rule action → ◌≡◌ {A = ℕ} 0 1) where
-    missed_here : first_for positions t key ≡ none
+    missed_here : first_for positions t key ≡ None
     unfolding lookup
     missed_here = nowhere (first_for positions t key) (looked-up is open-to).0 no_hit
 

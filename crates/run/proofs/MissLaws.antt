@@ -2,7 +2,7 @@
 use mathlib.Core.Path.{◌≡◌, refl, sym, ap, ◌∙◌}
 use mathlib.Core.Bool.{true, false}
 use mathlib.Core.List.{List}
-use mathlib.Core.Option.{none, some}
+use Rattle.std.specs.Prelude.{None, Some}
 use Prim.Native.Nat.{ℕ}
 use lib.ListN.{set}
 use Rattle.ends.specs.Records.{Slot, Write, entry_in, written}
@@ -31,7 +31,7 @@ module _ (policy keeper : List ℕ) (d : Decision) where
   p = policy_view policy
 
   -- where no write is given the keeper stays as it is
-  quiet : (m : Miss) → DecidedAs policy keeper m d → gives_write n ≡ false → (miss_keeper k m ≡ k) × (miss_write k m ≡ none)
+  quiet : (m : Miss) → DecidedAs policy keeper m d → gives_write n ≡ false → (miss_keeper k m ≡ k) × (miss_write k m ≡ None)
   quiet no_rule is g = (refl, refl)
   quiet (again i) is g = clash (again-given p k d.outcome is.outcome).0 g
   quiet (new_entry i x) is g = clash (entry-given p k d.outcome i x is.outcome).0 g
@@ -39,13 +39,13 @@ module _ (policy keeper : List ℕ) (d : Decision) where
 
   -- where one is given the entry was put, unless it is given again
   entered : {keeper' : List ℕ} (m : Miss) → DecidedAs policy keeper m d → gives_write n ≡ true → NewEntryPut n (as_write d.write) keeper keeper'
-      → (slots key_size keeper' ≡ miss_keeper k m) × (miss_write k m ≡ some (as_write d.write))
+      → (slots key_size keeper' ≡ miss_keeper k m) × (miss_write k m ≡ Some (as_write d.write))
   entered no_rule is g put = clash g (none-quiet p k d.outcome is.outcome)
-  entered (again i) is g put = (rw (again-given p k d.outcome is.outcome).1 at put.meaning, ap some (sym is.write))
+  entered (again i) is g put = (rw (again-given p k d.outcome is.outcome).1 at put.meaning, ap Some (sym is.write))
   entered (new_entry i x) is g put = (
     (rw (entry-given p k d.outcome i x is.outcome).1 at put.meaning)
         ∙ ap (λ (w : Write). set k w.slot (written (entry_in w))) is.write,
-    ap some (sym is.write),
+    ap Some (sym is.write),
   )
   entered (used_up r) is g put = clash g (full-quiet p k d.outcome is.outcome)
 

@@ -2,7 +2,7 @@
 use mathlib.Core.Path.{◌≡◌, refl, sym, ap, ◌∙◌}
 use mathlib.Core.Bool.{not}
 use mathlib.Core.List.{List}
-use mathlib.Core.Option.{Option, none}
+use Rattle.std.specs.Prelude.{Option, None}
 use Prim.Native.Nat.{ℕ, ◌*◌, ◌%◌, ◌≤◌}
 use native.Mathlib.Omega.{arith}
 use lib.Dec.{leb, ltb, eqb}
@@ -39,15 +39,15 @@ use Rattle.checks.specs.declared.refusal.CountAnswer.TheVariants.{Refused, Count
 -- ---- where no part is refused
 
 -- a trace that is not refused has few records
-trace-short : (bs : List ℕ) → trace_refusal bs ≡ none → packet_count key_size bs ≤ most_packets
+trace-short : (bs : List ℕ) → trace_refusal bs ≡ None → packet_count key_size bs ≤ most_packets
 unfolding trace_refusal
 trace-short bs e =
     let later = (need-none (eqb (length bs % trace_size key_size) 0) _ _ e).1 in
     ltb-false most_packets (packet_count key_size bs) (not-true (need-none (not (ltb most_packets (packet_count key_size bs))) _ _ later).0)
 
-module _ (policy trace table keeper out : List ℕ) (t : Totals) (fine : run_refusal policy trace table keeper (length out) t ≡ none) where
+module _ (policy trace table keeper out : List ℕ) (t : Totals) (fine : run_refusal policy trace table keeper (length out) t ≡ None) where
   -- the parts, in the order of the tests
-  parts : (policy_refusal policy ≡ none) × (trace_refusal trace ≡ none) × (ends_refusal table keeper ≡ none) × (AtMost most_total t)
+  parts : (policy_refusal policy ≡ None) × (trace_refusal trace ≡ None) × (ends_refusal table keeper ≡ None) × (AtMost most_total t)
       × (outcome_size * packet_count key_size trace ≤ length out)
   unfolding run_refusal
   parts =
@@ -55,7 +55,7 @@ module _ (policy trace table keeper out : List ℕ) (t : Totals) (fine : run_ref
       let b = none_first (trace_refusal trace) _ a.1 in
       let c = none_first (ends_refusal table keeper) _ b.1 in
       let d = need-none (totals_fit t) _ _ c.1 in
-      let e = need-none (leb (outcome_size * packet_count key_size trace) (length out)) _ none d.1 in
+      let e = need-none (leb (outcome_size * packet_count key_size trace) (length out)) _ None d.1 in
       (a.0, b.0, c.0, fit-most t d.0, leb-true _ _ e.0)
 
   ends : WholeSlots table × WholeSlots keeper
@@ -97,7 +97,7 @@ module _ (policy trace table keeper out : List ℕ) (t : TotalsStruct) where
   unfolding run_of
   run-refused e s = let o = verdict-refused refused e s in record { whole = rw o; meaning = rw o }
 
-  pub run_ran : {s : TotalsStruct} {table' keeper' out' : List ℕ} → refused ≡ none
+  pub run_ran : {s : TotalsStruct} {table' keeper' out' : List ℕ} → refused ≡ None
       → RanOver policy (keys key_size trace) table keeper out (as_totals t) table' keeper' out' (as_totals s)
       → length table' ≡ length table → Bytes table' → length keeper' ≡ length keeper → Bytes keeper'
       → RunIs policy trace table keeper out (as_totals t) (record { answer = Count (packet_count key_size trace); totals = s }) table' keeper' out'

@@ -1,7 +1,7 @@
 -- A report that goes to the keeper; a write that goes to the table, and its report back. Assumes nothing.
 use mathlib.Core.Path.{◌≡◌, refl, sym, ap, ◌∙◌}
 use mathlib.Core.List.{List}
-use mathlib.Core.Option.{Option, none, some}
+use Rattle.std.specs.Prelude.{Option, None, Some}
 use Prim.Native.Nat.{ℕ, ◌<◌}
 use native.Mathlib.Omega.{arith}
 use lib.ListN.{length}
@@ -50,8 +50,8 @@ module _ (keeper : List ℕ) (x : Report) (whole : WholeSlots keeper) (f : Repor
   k = slots key_size keeper
 
   left : (o : Option ℕ) → unless_refused (numbered o) k (after_report k x) ≡ reported_to k x o
-  left none = refl
-  left (some n) = refl
+  left None = refl
+  left (Some n) = refl
 
   refused_as : report_refused keeper (encode_report x) ≡ numbered (report_refusal k x)
   refused_as =
@@ -79,30 +79,30 @@ module _ {table keeper m out table' out' : List ℕ} {r : Verdict} {w : Write}
   means = rw spells (decode-encode-write key_size w f)
 
   -- the table refuses it where the model does
-  here : write_refusal positions t w ≡ none → write_call_refusal table m (length out) ≡ none
+  here : write_refusal positions t w ≡ None → write_call_refusal table m (length out) ≡ None
   unfolding encode_write
   here e =
       let z = spares-encode-write key_size w f in
       taken_here table m (length out) ends.table-whole (rw spells (length-encode-write key_size w f)) (rw spells)
       (rw spells (refl, (z.0, (z.1, tt)))) (rw means e) (omega arith)
 
-  kept : (o : Option ℕ) → write_refusal positions t w ≡ o → {q : Refusal} → write_call_refusal table m (length out) ≡ some q
+  kept : (o : Option ℕ) → write_refusal positions t w ≡ o → {q : Refusal} → write_call_refusal table m (length out) ≡ Some q
       → written_to (slots key_size keeper) t w o ≡ ends_in table keeper
-  kept (some number) e s = refl
-  kept none e s = none-some (sym (here e) ∙ s)
+  kept (Some number) e s = refl
+  kept None e s = none-some (sym (here e) ∙ s)
 
   pub sent-refused : {q : Refusal} → r ≡ Refused q → ends_in table' keeper ≡ sent_ends table keeper w
   unfolding slots_after_write
   sent-refused {q} e =
-      let s : write_call_refusal table m (length out) ≡ some q = verdict-refused _ is.answer e in
+      let s : write_call_refusal table m (length out) ≡ Some q = verdict-refused _ is.answer e in
       same_ends refl (rw s at is.meaning) ∙ sym (kept (write_refusal positions t w) refl s)
 
   pub sent-taken : {keeper' : List ℕ} {a : Verdict} → r ≡ Fine → length table' ≡ length table → Bytes table'
       → Reported keeper out' a keeper' → ends_in table' keeper' ≡ sent_ends table keeper w
   unfolding write_report
   sent-taken {keeper'} e l h reported =
-      let fine : write_call_refusal table m (length out) ≡ none = verdict-fine _ is.answer e in
-      let taken : write_refusal positions t w ≡ none = rw means at (taken-there table m (length out) fine) in
+      let fine : write_call_refusal table m (length out) ≡ None = verdict-fine _ is.answer e in
+      let taken : write_refusal positions t w ≡ None = rw means at (taken-there table m (length out) fine) in
       let did = received is fine in
       let after : slots key_size table' ≡ after_write t w = rw means at did.1 in
       let inside : w.slot < slot_count key_size table' =

@@ -1,6 +1,5 @@
 -- How a run is refused, in the order of the tests. Assumes nothing.
-use Rattle.std.specs.Prelude.{List, ℕ, ◌*◌, leb, eqb, length}
-use Rattle.std.proofs.Math.Option.{Option, none}
+use Rattle.std.specs.Prelude.{List, ℕ, ◌*◌, leb, eqb, length, Option, None}
 use Rattle.ends.specs.Records.{Totals}
 use Rattle.model.specs.Refusals.{lengths_differ, totals_full, short_output}
 use Rattle.ternary.specs.Sizes.{key_size}
@@ -20,7 +19,7 @@ trace_refusal bs = records_refusal (trace_size key_size) most_packets (trace_fla
 -- table 4; keeper 4; 12
 unfoldable pub ends_refusal : List ℕ → List ℕ → Option Refusal
 ends_refusal table keeper =
-    or_else (slots_refusal table) (or_else (slots_refusal keeper) (need (eqb (length table) (length keeper)) lengths_differ none))
+    or_else (slots_refusal table) (or_else (slots_refusal keeper) (need (eqb (length table) (length keeper)) lengths_differ None))
 
 -- policy 1, 2, 3; trace 1, 2, 3; table 4; keeper 4; 12; 13; 5, where the output has out_len bytes
 unfoldable pub run_refusal : List ℕ → List ℕ → List ℕ → List ℕ → ℕ → Totals → Option Refusal
@@ -28,4 +27,4 @@ run_refusal policy trace table keeper out_len t =
     or_else (policy_refusal policy)
     (or_else (trace_refusal trace)
     (or_else (ends_refusal table keeper)
-    (need (totals_fit t) totals_full (need (leb (outcome_size * packet_count key_size trace) out_len) short_output none))))
+    (need (totals_fit t) totals_full (need (leb (outcome_size * packet_count key_size trace) out_len) short_output None))))

@@ -1,6 +1,5 @@
 -- What a run answers, and what it leaves in the buffers and the totals. Assumes nothing.
-use Rattle.std.specs.Prelude.{◌≡◌, List, ℕ, length}
-use Rattle.std.proofs.Math.Option.{Option, none, some}
+use Rattle.std.specs.Prelude.{◌≡◌, List, ℕ, length, Option, None, Some}
 use Rattle.ends.specs.Records.{Outcome, Totals}
 use Rattle.ends.specs.Trace.{Ends}
 use Rattle.ends.specs.Totals.{totals_after}
@@ -35,8 +34,8 @@ pub record RunResult : Type 0 where
 
 -- a refusal leaves all as it was; else the totals advance, the ends are those of the model's run, and the outcomes go to the output's start
 abbrev pub run_result_of : Option Refusal → List ℕ → List ℕ → List ℕ → List ℕ → List ℕ → Totals → RunResult
-run_result_of (some r) policy trace table keeper out t = record { answer = Refused r; totals = t; table = table; keeper = keeper; out = out }
-run_result_of none policy trace table keeper out t =
+run_result_of (Some r) policy trace table keeper out t = record { answer = Refused r; totals = t; table = table; keeper = keeper; out = out }
+run_result_of None policy trace table keeper out t =
     record {
       answer = Count (packet_count key_size trace);
       totals = totals_after t (outcomes_of policy trace table keeper);
@@ -50,8 +49,8 @@ run_of policy trace table keeper out t = run_result_of (run_refusal policy trace
 
 -- the two ends after it
 abbrev pub ends_left : Option Refusal → List ℕ → List ℕ → List ℕ → List ℕ → Ends
-ends_left (some r) policy trace table keeper = ends_in table keeper
-ends_left none policy trace table keeper = ends_of policy trace table keeper
+ends_left (Some r) policy trace table keeper = ends_in table keeper
+ends_left None policy trace table keeper = ends_of policy trace table keeper
 
 abbrev pub result_of : Ran → List ℕ → List ℕ → List ℕ → RunResult
 result_of r table keeper out = record { answer = r.answer; totals = as_totals r.totals; table = table; keeper = keeper; out = out }

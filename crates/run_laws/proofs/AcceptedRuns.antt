@@ -2,7 +2,7 @@
 use mathlib.Core.Path.{◌≡◌, refl, sym, ap, ◌∙◌}
 use mathlib.Core.Bool.{Bool, cond}
 use mathlib.Core.List.{List, [], ◌∷◌, ◌++◌, map}
-use mathlib.Core.Option.{Option, none, some}
+use Rattle.std.specs.Prelude.{Option, None, Some}
 use Prim.Native.Nat.{ℕ, suc, ◌*◌}
 use native.Mathlib.Nat.{zero-add}
 use native.Mathlib.Omega.{arith}
@@ -31,7 +31,7 @@ use Rattle.run_laws.specs.Calls.{PastRun, Made, left, outcomes_in}
 
 -- what an accepted call of n packets left
 pub record AcceptedRun (t : Totals) (c : PastRun) (n : ℕ) : Type 0 where
-  pub fine : run_refusal c.policy c.trace c.table c.keeper (length c.out) t ≡ none
+  pub fine : run_refusal c.policy c.trace c.table c.keeper (length c.out) t ≡ None
   pub count : n ≡ packet_count key_size c.trace
   pub sums : left c ≡ totals_after t (outcomes_of c.policy c.trace c.table c.keeper)
   pub table-bytes : c.table' ≡ spelled encode_slot (ends_of c.policy c.trace c.table c.keeper).table
@@ -46,13 +46,13 @@ module _ (t : Totals) (c : PastRun) (is : Made t c) where
   abbrev shown : Option Refusal → RunResult
   shown o = run_result_of o c.policy c.trace c.table c.keeper c.out t
 
-  packets-fine : (o : Option Refusal) {n : ℕ} → Count n ≡ (shown o).answer → o ≡ none
-  packets-fine (some r) e = let z : ◌≡◌ {A = ℕ} 0 1 = cc in absurd (omega arith)
-  packets-fine none e = refl
+  packets-fine : (o : Option Refusal) {n : ℕ} → Count n ≡ (shown o).answer → o ≡ None
+  packets-fine (Some r) e = let z : ◌≡◌ {A = ℕ} 0 1 = cc in absurd (omega arith)
+  packets-fine None e = refl
 
-  refused-some : (o : Option Refusal) {r : Refusal} → Refused r ≡ (shown o).answer → o ≡ some r
-  refused-some (some q) e = cc
-  refused-some none e = let z : ◌≡◌ {A = ℕ} 0 1 = cc in absurd (omega arith)
+  refused-some : (o : Option Refusal) {r : Refusal} → Refused r ≡ (shown o).answer → o ≡ Some r
+  refused-some (Some q) e = cc
+  refused-some None e = let z : ◌≡◌ {A = ℕ} 0 1 = cc in absurd (omega arith)
 
   -- the whole equation, once the tests are known
   whole_of : (o : Option Refusal) → refused_with ≡ o
@@ -65,8 +65,8 @@ module _ (t : Totals) (c : PastRun) (is : Made t c) where
 
   pub accepted-run : {n : ℕ} → c.ran.answer ≡ Count n → AcceptedRun t c n
   accepted-run {n} a =
-      let fine : refused_with ≡ none = packets-fine refused_with (sym a ∙ answer-of) in
-      let w = whole_of none fine in
+      let fine : refused_with ≡ None = packets-fine refused_with (sym a ∙ answer-of) in
+      let w = whole_of None fine in
       let count : Count n ≡ Count (packet_count key_size c.trace) = sym a ∙ ap (λ (s : RunResult). s.answer) w in
       record {
         fine = fine;
@@ -78,11 +78,11 @@ module _ (t : Totals) (c : PastRun) (is : Made t c) where
         meaning = is.meaning ∙ ap (λ o. ends_left o c.policy c.trace c.table c.keeper) fine;
       }
 
-  pub refused-by : {r : Refusal} → c.ran.answer ≡ Refused r → refused_with ≡ some r
+  pub refused-by : {r : Refusal} → c.ran.answer ≡ Refused r → refused_with ≡ Some r
   refused-by a = refused-some refused_with (sym a ∙ answer-of)
 
   pub refused-run : {r : Refusal} → c.ran.answer ≡ Refused r → left c ≡ t
-  refused-run {r} a = ap (λ (s : RunResult). s.totals) (whole_of (some r) (refused-by a))
+  refused-run {r} a = ap (λ (s : RunResult). s.totals) (whole_of (Some r) (refused-by a))
 
 -- ---- the outcomes in the output
 

@@ -1,7 +1,7 @@
 -- What the answer says of the record that is shown, and what the tests come to. Assumes nothing.
 use mathlib.Core.Path.{◌≡◌, refl}
 use mathlib.Core.List.{List}
-use mathlib.Core.Option.{Option, none, some}
+use Rattle.std.specs.Prelude.{Option, None, Some}
 use Prim.Native.Nat.{ℕ, ◌<◌}
 use native.Mathlib.Omega.{arith}
 use Rattle.model.specs.Policy.{best}
@@ -21,33 +21,33 @@ use Rattle.show.specs.declared.ShowAnswer.TheVariants.{NoRule, FromTable, FromPo
 
 -- ---- from the answer to the record
 
-of-slot : (o : Option Refusal) (x : Shown) (i : ℕ) → show_answer_of o x ≡ FromTable i → (o ≡ none) × (x ≡ slot_shown i)
-of-slot (some r) x i e = let z : ◌≡◌ {A = ℕ} 0 1 = cc in absurd (omega arith)
-of-slot none (slot_shown k) i e = (refl, cc)
-of-slot none (rule_shown k) i e = let z : ◌≡◌ {A = ℕ} 0 1 = cc in absurd (omega arith)
-of-slot none nothing_shown i e = let z : ◌≡◌ {A = ℕ} 0 1 = cc in absurd (omega arith)
+of-slot : (o : Option Refusal) (x : Shown) (i : ℕ) → show_answer_of o x ≡ FromTable i → (o ≡ None) × (x ≡ slot_shown i)
+of-slot (Some r) x i e = let z : ◌≡◌ {A = ℕ} 0 1 = cc in absurd (omega arith)
+of-slot None (slot_shown k) i e = (refl, cc)
+of-slot None (rule_shown k) i e = let z : ◌≡◌ {A = ℕ} 0 1 = cc in absurd (omega arith)
+of-slot None nothing_shown i e = let z : ◌≡◌ {A = ℕ} 0 1 = cc in absurd (omega arith)
 
-of-rule : (o : Option Refusal) (x : Shown) (i : ℕ) → show_answer_of o x ≡ FromPolicy i → (o ≡ none) × (x ≡ rule_shown i)
-of-rule (some r) x i e = let z : ◌≡◌ {A = ℕ} 0 1 = cc in absurd (omega arith)
-of-rule none (slot_shown k) i e = let z : ◌≡◌ {A = ℕ} 0 1 = cc in absurd (omega arith)
-of-rule none (rule_shown k) i e = (refl, cc)
-of-rule none nothing_shown i e = let z : ◌≡◌ {A = ℕ} 0 1 = cc in absurd (omega arith)
+of-rule : (o : Option Refusal) (x : Shown) (i : ℕ) → show_answer_of o x ≡ FromPolicy i → (o ≡ None) × (x ≡ rule_shown i)
+of-rule (Some r) x i e = let z : ◌≡◌ {A = ℕ} 0 1 = cc in absurd (omega arith)
+of-rule None (slot_shown k) i e = let z : ◌≡◌ {A = ℕ} 0 1 = cc in absurd (omega arith)
+of-rule None (rule_shown k) i e = (refl, cc)
+of-rule None nothing_shown i e = let z : ◌≡◌ {A = ℕ} 0 1 = cc in absurd (omega arith)
 
-of-neither : (o : Option Refusal) (x : Shown) → show_answer_of o x ≡ NoRule → (o ≡ none) × (x ≡ nothing_shown)
-of-neither (some r) x e = let z : ◌≡◌ {A = ℕ} 0 1 = cc in absurd (omega arith)
-of-neither none (slot_shown k) e = let z : ◌≡◌ {A = ℕ} 0 1 = cc in absurd (omega arith)
-of-neither none (rule_shown k) e = let z : ◌≡◌ {A = ℕ} 0 1 = cc in absurd (omega arith)
-of-neither none nothing_shown e = (refl, refl)
+of-neither : (o : Option Refusal) (x : Shown) → show_answer_of o x ≡ NoRule → (o ≡ None) × (x ≡ nothing_shown)
+of-neither (Some r) x e = let z : ◌≡◌ {A = ℕ} 0 1 = cc in absurd (omega arith)
+of-neither None (slot_shown k) e = let z : ◌≡◌ {A = ℕ} 0 1 = cc in absurd (omega arith)
+of-neither None (rule_shown k) e = let z : ◌≡◌ {A = ℕ} 0 1 = cc in absurd (omega arith)
+of-neither None nothing_shown e = (refl, refl)
 
 module _ (policy key table : List ℕ) where
   -- a record that is shown: none of the arguments is refused, and the model shows it
   pub table-shown : (i : ℕ) → show_answer policy key table ≡ FromTable i
-      → (lent_refusal policy key table ≡ none) × (shown_in policy key table ≡ slot_shown i)
+      → (lent_refusal policy key table ≡ None) × (shown_in policy key table ≡ slot_shown i)
   unfolding show_answer
   table-shown i e = of-slot (lent_refusal policy key table) (shown_in policy key table) i e
 
   pub policy-shown : (r : ℕ) → show_answer policy key table ≡ FromPolicy r
-      → (lent_refusal policy key table ≡ none) × (shown_in policy key table ≡ rule_shown r)
+      → (lent_refusal policy key table ≡ None) × (shown_in policy key table ≡ rule_shown r)
   unfolding show_answer
   policy-shown r e = of-rule (lent_refusal policy key table) (shown_in policy key table) r e
 
@@ -57,17 +57,17 @@ module _ (policy key table : List ℕ) where
 
   -- ---- from the tests to the answer
 
-  module _ (fine : lent_refusal policy key table ≡ none) where
-    pub says_slot : (i : ℕ) → first_for positions (slots key_size table) key ≡ some i → FromTable i ≡ show_answer policy key table
+  module _ (fine : lent_refusal policy key table ≡ None) where
+    pub says_slot : (i : ℕ) → first_for positions (slots key_size table) key ≡ Some i → FromTable i ≡ show_answer policy key table
     unfolding show_answer shown
     says_slot i e = rw (fine, e)
 
-    module _ (missed : first_for positions (slots key_size table) key ≡ none) where
-      pub says-rule : (r : ℕ) → best positions (rules key_size policy) key ≡ some r → FromPolicy r ≡ show_answer policy key table
+    module _ (missed : first_for positions (slots key_size table) key ≡ None) where
+      pub says-rule : (r : ℕ) → best positions (rules key_size policy) key ≡ Some r → FromPolicy r ≡ show_answer policy key table
       unfolding show_answer shown
       says-rule r e = rw (fine, missed, e)
 
-      pub says_none : best positions (rules key_size policy) key ≡ none → NoRule ≡ show_answer policy key table
+      pub says_none : best positions (rules key_size policy) key ≡ None → NoRule ≡ show_answer policy key table
       unfolding show_answer shown
       says_none e = rw (fine, missed, e)
 

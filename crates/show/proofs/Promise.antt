@@ -1,7 +1,7 @@
 -- The record that is shown is the one that decides, and a whole record of its buffer. Assumes nothing.
 use mathlib.Core.Path.{◌≡◌}
 use mathlib.Core.List.{List}
-use mathlib.Core.Option.{none}
+use Rattle.std.specs.Prelude.{None}
 use Prim.Native.Nat.{ℕ, ◌*◌}
 use native.Mathlib.Omega.{arith}
 use Rattle.ends.specs.Show.{slot_shown, rule_shown, nothing_shown}
@@ -17,7 +17,7 @@ use Rattle.show.specs.Promise.{DecidesLaw, WholePart}
 use Rattle.show.specs.declared.ShowAnswer.TheVariants.{NoRule, FromTable, FromPolicy}
 use Rattle.show.proofs.AnswerLaws.{table-shown, policy-shown, nothing-shown, table_below, policy-below}
 
-module _ (policy key table : List ℕ) (fine : lent_refusal policy key table ≡ none) where
+module _ (policy key table : List ℕ) (fine : lent_refusal policy key table ≡ None) where
   slot-here : (i : ℕ) → shown_in policy key table ≡ slot_shown i → show_answer policy key table ≡ FromTable i
   unfolding show_answer
   slot-here i e = rw (fine, e)

@@ -1,6 +1,5 @@
 -- Showing the decision: which record is shown for a key, and the part that it is. Assumes nothing.
-use Rattle.std.specs.Prelude.{List, [], ℕ}
-use Rattle.std.proofs.Math.Option.{Option, none, some}
+use Rattle.std.specs.Prelude.{List, [], ℕ, Option, None, Some}
 use Rattle.ends.specs.Show.{Shown, slot_shown, rule_shown, nothing_shown, shown}
 use Rattle.ternary.specs.Sizes.{key_size, positions}
 use Rattle.buffers.specs.Parts.{chunk}
@@ -18,10 +17,10 @@ shown_in policy key table = shown positions (rules key_size policy) (slots key_s
 
 -- the refusal (policy 1, 2, 3; key 1; table 4), or which record is shown
 abbrev pub show_answer_of : Option Refusal → Shown → ShowAnswer
-show_answer_of (some r) x = Refused r
-show_answer_of none (slot_shown i) = FromTable i
-show_answer_of none (rule_shown r) = FromPolicy r
-show_answer_of none nothing_shown = NoRule
+show_answer_of (Some r) x = Refused r
+show_answer_of None (slot_shown i) = FromTable i
+show_answer_of None (rule_shown r) = FromPolicy r
+show_answer_of None nothing_shown = NoRule
 
 unfoldable pub show_answer : List ℕ → List ℕ → List ℕ → ShowAnswer
 show_answer policy key table = show_answer_of (lent_refusal policy key table) (shown_in policy key table)

@@ -1,6 +1,5 @@
 -- What it means that a record is shown. Assumes nothing.
-use Rattle.std.specs.Prelude.{◌≡◌, List, ◌↔◌, ℕ, length}
-use Rattle.std.proofs.Math.Option.{none, some}
+use Rattle.std.specs.Prelude.{◌≡◌, List, ◌↔◌, ℕ, length, None, Some}
 use Rattle.model.specs.Policy.{best}
 use Rattle.ends.specs.Ends.{LowestFor, NoneFor}
 use Rattle.ternary.specs.Sizes.{key_size, positions}
@@ -15,13 +14,13 @@ use Rattle.show.specs.declared.ShowAnswer.TheVariants.{NoRule, FromTable, FromPo
 pub record Decides (policy key table : List ℕ) : Type 0 where
   pub slot : (i : ℕ) → (show_answer policy key table ≡ FromTable i) ↔ LowestFor positions (slots key_size table) key i
   pub rule : (r : ℕ) → (show_answer policy key table ≡ FromPolicy r)
-      ↔ (NoneFor positions (slots key_size table) key × (best positions (rules key_size policy) key ≡ some r))
+      ↔ (NoneFor positions (slots key_size table) key × (best positions (rules key_size policy) key ≡ Some r))
   pub neither : (show_answer policy key table ≡ NoRule)
-      ↔ (NoneFor positions (slots key_size table) key × (best positions (rules key_size policy) key ≡ none))
+      ↔ (NoneFor positions (slots key_size table) key × (best positions (rules key_size policy) key ≡ None))
 
 -- for arguments that are not refused
 abbrev pub DecidesLaw : Type 0
-DecidesLaw = (policy key table : List ℕ) → lent_refusal policy key table ≡ none → Decides policy key table
+DecidesLaw = (policy key table : List ℕ) → lent_refusal policy key table ≡ None → Decides policy key table
 
 -- the part is a whole slot, a whole rule, or empty, so its length alone says which buffer it is of
 pub record WholePart (policy key table : List ℕ) : Type 0 where

@@ -3,7 +3,7 @@ use mathlib.Core.Path.{◌≡◌, refl, sym, ap, ◌∙◌}
 use mathlib.Core.Bool.{Bool, true, false}
 use mathlib.Core.List.{List}
 use mathlib.Core.Logic.{◌≢◌}
-use mathlib.Core.Option.{some}
+use Rattle.std.specs.Prelude.{Some}
 use Prim.Native.Nat.{ℕ, ◌+◌, ◌≤◌, ◌<◌, max}
 use native.Mathlib.Omega.{arith}
 use native.Mathlib.Numerals.{add-one}
@@ -83,7 +83,7 @@ module _ (bs : List ℕ) where
 
   -- of the slots below i the one that is given up first
   pub record FirstSoFar (i best : ℕ) : Type 0 where
-    pub so_far : foremost (λ j. true) order i ≡ some best
+    pub so_far : foremost (λ j. true) order i ≡ Some best
     pub low : best < i
 
   pub first_slot : FirstSoFar 1 0

@@ -2,7 +2,7 @@
 use mathlib.Core.Path.{◌≡◌, refl, sym, ap}
 use mathlib.Core.Bool.{true, false}
 use mathlib.Core.List.{List}
-use mathlib.Core.Option.{Option, none, some}
+use Rattle.std.specs.Prelude.{Option, None, Some}
 use Prim.Native.Nat.{ℕ, ◌+◌, ◌*◌, ◌≤◌, ◌<◌}
 use native.Mathlib.Omega.{arith}
 use lib.ListN.{length}
@@ -45,16 +45,16 @@ module _ {w : ℕ} {bs : List ℕ} {key : Key} {i : ℕ} (is : Unheld w bs key i
 
 -- ---- what the answer says, for its callers
 
-pub found_nowhere : (o : Option ℕ) → Nowhere ≡ slot_found_of o → o ≡ none
-found_nowhere none e = refl
-found_nowhere (some i) e = let z : ◌≡◌ {A = ℕ} 0 1 = cc in absurd (omega arith)
+pub found_nowhere : (o : Option ℕ) → Nowhere ≡ slot_found_of o → o ≡ None
+found_nowhere None e = refl
+found_nowhere (Some i) e = let z : ◌≡◌ {A = ℕ} 0 1 = cc in absurd (omega arith)
 
-pub found_at : (o : Option ℕ) (i : ℕ) → At i ≡ slot_found_of o → o ≡ some i
-found_at none i e = let z : ◌≡◌ {A = ℕ} 0 1 = cc in absurd (omega arith)
-found_at (some k) i e = cc
+pub found_at : (o : Option ℕ) (i : ℕ) → At i ≡ slot_found_of o → o ≡ Some i
+found_at None i e = let z : ◌≡◌ {A = ℕ} 0 1 = cc in absurd (omega arith)
+found_at (Some k) i e = cc
 
 -- a slot that takes the key is one of the buffer, which has few where its slots are whole
-module _ (bs : List ℕ) (key : Key) (i : ℕ) (e : first_for positions (slots key_size bs) key ≡ some i) where
+module _ (bs : List ℕ) (key : Key) (i : ℕ) (e : first_for positions (slots key_size bs) key ≡ Some i) where
   pub held_below : i < slot_count key_size bs
   held_below = omega (arith, (found positions (slots key_size bs) key i e).inside, slot-count key_size bs)
 

@@ -1,6 +1,5 @@
 -- The slot for a new entry. Assumes nothing.
-use Rattle.std.specs.Prelude.{List, ℕ, length}
-use Rattle.std.proofs.Math.Option.{Option}
+use Rattle.std.specs.Prelude.{List, ℕ, length, Option}
 use Rattle.model.specs.Below.{first_below}
 use Rattle.ends.specs.Records.{Slot, slot_at}
 use Rattle.ends.specs.Ends.{is_empty}

@@ -2,7 +2,7 @@
 use mathlib.Core.Path.{◌≡◌, refl}
 use mathlib.Core.Bool.{Bool, true, false, cond}
 use mathlib.Core.List.{List}
-use mathlib.Core.Option.{Option, none, some}
+use Rattle.std.specs.Prelude.{Option, None, Some}
 use Prim.Native.Nat.{ℕ, ◌+◌, ◌*◌, ◌≤◌, ◌<◌}
 use native.Mathlib.Omega.{arith}
 use lib.ListN.{length, set}
@@ -60,9 +60,9 @@ module _ (table : List ℕ) (h : Bytes table) where
     after-found : (o : Option Refusal) (f : Option ℕ) → lookup_refusal key table out_len ≡ o → first_for positions (slots key_size table) key ≡ f
         → Became table (unless_refused o (slots key_size table) (counted_at (slots key_size table) f))
         (unless_refused o table (counted_bytes table f))
-    after-found (some r) f e k = same
-    after-found none none e k = same
-    after-found none (some i) e k =
+    after-found (Some r) f e k = same
+    after-found None None e k = same
+    after-found None (Some i) e k =
         let l = held_below table key i k in
         replaced (lookup-whole key table out_len e) i _ l (counted-there (lookup-whole key table out_len e) i l)
 
@@ -96,9 +96,9 @@ module _ (table : List ℕ) (h : Bytes table) where
         let new = cond newer (set (slots key_size table) w.slot (written (entry_in w))) (slots key_size table) in
         let bytes = cond newer (put_slot key_size table w.slot (written (entry_in w))) table in
         Became table (unless_refused o (slots key_size table) new) (unless_refused o table bytes)
-    after-newer (some r) newer e = same
-    after-newer none false e = same
-    after-newer none true e =
+    after-newer (Some r) newer e = same
+    after-newer None false e = same
+    after-newer None true e =
         let g = (good-call table m out_len).0 e in
         replaced g.whole (decode_write key_size m).slot _ g.good.slot-there (written-there g.good.long)
 

@@ -1,7 +1,7 @@
 -- What a lookup comes to, from the slot that is found. Assumes nothing.
 use mathlib.Core.Path.{◌≡◌, refl, ap, ◌∙◌}
 use mathlib.Core.List.{List}
-use mathlib.Core.Option.{Option, none, some}
+use Rattle.std.specs.Prelude.{Option, None, Some}
 use Prim.Native.Nat.{ℕ, ◌≤◌, ◌<◌}
 use native.Mathlib.Omega.{arith}
 use lib.Dec.{leb}
@@ -30,37 +30,37 @@ use Rattle.table.specs.declared.LookupAnswer.TheVariants.{Refused, Miss, Hit}
 
 -- ---- what is found
 
-of-refused : (o : Option Refusal) (f : Option ℕ) (r : Refusal) → FoundRefused r ≡ found_of o f → o ≡ some r
-of-refused (some x) f r e = cc
-of-refused none none r e = let z : ◌≡◌ {A = ℕ} 0 1 = cc in absurd (omega arith)
-of-refused none (some i) r e = let z : ◌≡◌ {A = ℕ} 0 1 = cc in absurd (omega arith)
+of-refused : (o : Option Refusal) (f : Option ℕ) (r : Refusal) → FoundRefused r ≡ found_of o f → o ≡ Some r
+of-refused (Some x) f r e = cc
+of-refused None None r e = let z : ◌≡◌ {A = ℕ} 0 1 = cc in absurd (omega arith)
+of-refused None (Some i) r e = let z : ◌≡◌ {A = ℕ} 0 1 = cc in absurd (omega arith)
 
-of-miss : (o : Option Refusal) (f : Option ℕ) → FoundMiss ≡ found_of o f → (o ≡ none) × (f ≡ none)
-of-miss (some x) f e = let z : ◌≡◌ {A = ℕ} 0 1 = cc in absurd (omega arith)
-of-miss none none e = (refl, refl)
-of-miss none (some i) e = let z : ◌≡◌ {A = ℕ} 0 1 = cc in absurd (omega arith)
+of-miss : (o : Option Refusal) (f : Option ℕ) → FoundMiss ≡ found_of o f → (o ≡ None) × (f ≡ None)
+of-miss (Some x) f e = let z : ◌≡◌ {A = ℕ} 0 1 = cc in absurd (omega arith)
+of-miss None None e = (refl, refl)
+of-miss None (Some i) e = let z : ◌≡◌ {A = ℕ} 0 1 = cc in absurd (omega arith)
 
-of-slot : (o : Option Refusal) (f : Option ℕ) (i : ℕ) → FoundSlot i ≡ found_of o f → (o ≡ none) × (f ≡ some i)
-of-slot (some x) f i e = let z : ◌≡◌ {A = ℕ} 0 1 = cc in absurd (omega arith)
-of-slot none none i e = let z : ◌≡◌ {A = ℕ} 0 1 = cc in absurd (omega arith)
-of-slot none (some k) i e = (refl, cc)
+of-slot : (o : Option Refusal) (f : Option ℕ) (i : ℕ) → FoundSlot i ≡ found_of o f → (o ≡ None) × (f ≡ Some i)
+of-slot (Some x) f i e = let z : ◌≡◌ {A = ℕ} 0 1 = cc in absurd (omega arith)
+of-slot None None i e = let z : ◌≡◌ {A = ℕ} 0 1 = cc in absurd (omega arith)
+of-slot None (Some k) i e = (refl, cc)
 
 module _ (key table : List ℕ) (out_len : ℕ) where
   -- a lookup that is not refused has a buffer of whole slots
-  pub lookup-whole : lookup_refusal key table out_len ≡ none → WholeSlots table
+  pub lookup-whole : lookup_refusal key table out_len ≡ None → WholeSlots table
   unfolding lookup_refusal
   lookup-whole e =
       (slots-accepted table).0 (none_first (slots_refusal table) _ (none_first (key_refusal key) _ e).1).0
 
   -- and, on a hit, room for a report
-  pub hit-long : (i : ℕ) → lookup_refusal key table out_len ≡ none → first_for positions (slots key_size table) key ≡ some i → report_size ≤ out_len
+  pub hit-long : (i : ℕ) → lookup_refusal key table out_len ≡ None → first_for positions (slots key_size table) key ≡ Some i → report_size ≤ out_len
   unfolding lookup_refusal
   hit-long i e f =
-      let h : short_for_report out_len ≡ none = rw f at (none_first (slots_refusal table) _ (none_first (key_refusal key) _ e).1).1 in
-      leb-true report_size out_len (need-none (leb report_size out_len) _ none h).0
+      let h : short_for_report out_len ≡ None = rw f at (none_first (slots_refusal table) _ (none_first (key_refusal key) _ e).1).1 in
+      leb-true report_size out_len (need-none (leb report_size out_len) _ None h).0
 
   module _ (i : ℕ) (e : FoundSlot i ≡ find_answer key table out_len) where
-    hit-there : (lookup_refusal key table out_len ≡ none) × (first_for positions (slots key_size table) key ≡ some i)
+    hit-there : (lookup_refusal key table out_len ≡ None) × (first_for positions (slots key_size table) key ≡ Some i)
     unfolding find_answer
     hit-there = of-slot (lookup_refusal key table out_len) (first_for positions (slots key_size table) key) i e
 

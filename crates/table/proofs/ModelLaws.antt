@@ -3,7 +3,7 @@
 use mathlib.Core.Path.{◌≡◌, refl}
 use mathlib.Core.Bool.{false}
 use mathlib.Core.List.{List}
-use mathlib.Core.Option.{Option, none, some}
+use Rattle.std.specs.Prelude.{Option, None, Some}
 use mathlib.Core.Logic.{◌↔◌}
 use Prim.Native.Nat.{ℕ, ◌≤◌}
 use native.Mathlib.Omega.{arith}
@@ -36,7 +36,7 @@ use Rattle.table.proofs.WriteLaws.{good-call}
 
 module _ (table m : List ℕ) where
   -- what is not refused as bytes is not refused by the model
-  pub good-there : GoodWrite m (slot_count key_size table) → write_refusal positions (slots key_size table) (decode_write key_size m) ≡ none
+  pub good-there : GoodWrite m (slot_count key_size table) → write_refusal positions (slots key_size table) (decode_write key_size m) ≡ None
   unfolding write_refusal decode_write
   good-there h =
       let w = decode_write key_size m in
@@ -49,7 +49,7 @@ module _ (table m : List ℕ) where
   -- and the other way round, where length, kind and spare bytes are right
   pub good-here : length m ≡ write_size key_size → get_or m write_kind 0 ≡ is_write
       → Zeros (write_spares key_size) m
-      → write_refusal positions (slots key_size table) (decode_write key_size m) ≡ none → GoodWrite m (slot_count key_size table)
+      → write_refusal positions (slots key_size table) (decode_write key_size m) ≡ None → GoodWrite m (slot_count key_size table)
   unfolding decode_write
   good-here l k z e =
       let taken = write-taken positions (slots key_size table) (decode_write key_size m) e in
@@ -64,21 +64,21 @@ module _ (table m : List ℕ) where
   -- so a call on whole slots, with room for the report, is refused exactly as the model says
   pub taken_here : (out_len : ℕ) → WholeSlots table → length m ≡ write_size key_size → get_or m write_kind 0 ≡ is_write
       → Zeros (write_spares key_size) m
-      → write_refusal positions (slots key_size table) (decode_write key_size m) ≡ none → report_size ≤ out_len
-      → write_call_refusal table m out_len ≡ none
+      → write_refusal positions (slots key_size table) (decode_write key_size m) ≡ None → report_size ≤ out_len
+      → write_call_refusal table m out_len ≡ None
   taken_here out_len whole l k z e fits = (good-call table m out_len).1 (record { whole = whole; good = good-here l k z e; fits = fits })
 
-  pub taken-there : (out_len : ℕ) → write_call_refusal table m out_len ≡ none
-      → write_refusal positions (slots key_size table) (decode_write key_size m) ≡ none
+  pub taken-there : (out_len : ℕ) → write_call_refusal table m out_len ≡ None
+      → write_refusal positions (slots key_size table) (decode_write key_size m) ≡ None
   taken-there out_len e = good-there ((good-call table m out_len).0 e).good
 
 -- ---- which lookups are not refused
 
-long-enough : (f : Option ℕ) (out_len : ℕ) → ((i : ℕ) → f ≡ some i → report_size ≤ out_len) → hit_refusal f out_len ≡ none
-long-enough none out_len h = refl
-long-enough (some i) out_len h = rw (le-leb report_size out_len (h i refl))
+long-enough : (f : Option ℕ) (out_len : ℕ) → ((i : ℕ) → f ≡ Some i → report_size ≤ out_len) → hit_refusal f out_len ≡ None
+long-enough None out_len h = refl
+long-enough (Some i) out_len h = rw (le-leb report_size out_len (h i refl))
 
-pub good-lookup : (key table : List ℕ) (out_len : ℕ) → (lookup_refusal key table out_len ≡ none) ↔ GoodLookup key table out_len
+pub good-lookup : (key table : List ℕ) (out_len : ℕ) → (lookup_refusal key table out_len ≡ None) ↔ GoodLookup key table out_len
 unfolding lookup_refusal key_refusal
 good-lookup key table out_len = (
   λ e.
@@ -97,15 +97,15 @@ good-lookup key table out_len = (
 -- ---- what a call that is not refused is in the model
 
 module _ {key table out table' out' : List ℕ} {r : LookupAnswer} (is : LookedUp key table out r table' out') where
-  pub looked-up : lookup_refusal key table (length out) ≡ none
-      → (r ≡ lookup_answer_of none (lookup positions (slots key_size table) key))
+  pub looked-up : lookup_refusal key table (length out) ≡ None
+      → (r ≡ lookup_answer_of None (lookup positions (slots key_size table) key))
       × (slots key_size table' ≡ after_lookup positions (slots key_size table) key)
       × (out' ≡ told_of (lookup positions (slots key_size table) key) out)
   unfolding lookup_answer slots_after_lookup out_after_lookup
   looked-up e = (rw e at is.answer, rw e at is.meaning, rw e at is.out-after)
 
 module _ {table m out table' out' : List ℕ} {r : Verdict} (is : Received table m out r table' out') where
-  pub received : write_call_refusal table m (length out) ≡ none
+  pub received : write_call_refusal table m (length out) ≡ None
       → (r ≡ Fine) × (slots key_size table' ≡ after_write (slots key_size table) (decode_write key_size m))
       × (out' ≡ splice 0 (encode_report (write_report (slots key_size table) (decode_write key_size m))) out)
   unfolding slots_after_write out_after_write

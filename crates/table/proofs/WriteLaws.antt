@@ -2,7 +2,7 @@
 use mathlib.Core.Path.{◌≡◌, refl}
 use mathlib.Core.Bool.{not}
 use mathlib.Core.List.{List}
-use mathlib.Core.Option.{none}
+use Rattle.std.specs.Prelude.{None}
 use mathlib.Core.Logic.{◌↔◌}
 use Prim.Native.Nat.{ℕ}
 use native.Mathlib.Omega.{arith}
@@ -35,7 +35,7 @@ use Rattle.checks.specs.declared.refusal.Verdict.TheVariants.{Refused, Fine}
 -- ---- which writes are not refused
 
 module _ (m : List ℕ) (count : ℕ) where
-  good-write : (write_message_refusal m count ≡ none) ↔ GoodWrite m count
+  good-write : (write_message_refusal m count ≡ None) ↔ GoodWrite m count
   unfolding write_message_refusal
   good-write = (
     λ e.
@@ -62,7 +62,7 @@ module _ (m : List ℕ) (count : ℕ) where
   )
 
 module _ (table m : List ℕ) (out_len : ℕ) where
-  pub good-call : (write_call_refusal table m out_len ≡ none) ↔ GoodCall table m out_len
+  pub good-call : (write_call_refusal table m out_len ≡ None) ↔ GoodCall table m out_len
   unfolding write_call_refusal
   good-call = (
     λ e.
@@ -71,7 +71,7 @@ module _ (table m : List ℕ) (out_len : ℕ) where
         record {
           whole = (slots-accepted table).0 whole.0;
           good = (good-write m (slot_count key_size table)).0 good.0;
-          fits = leb-true _ _ (need-none (leb report_size out_len) _ none good.1).0;
+          fits = leb-true _ _ (need-none (leb report_size out_len) _ None good.1).0;
         },
     λ h. rw ((slots-accepted table).1 h.whole, (good-write m (slot_count key_size table)).1 h.good, le-leb _ _ h.fits),
   )
@@ -93,7 +93,7 @@ module _ (table m out : List ℕ) where
       → Received table m out Fine table' out'
   unfolding slots_after_write table_after_write out_after_write write_report
   received-taken w x table' out' e d s t =
-      let good : write_call_refusal table m (length out) ≡ none = verdict-fine (write_call_refusal table m (length out)) e refl in
+      let good : write_call_refusal table m (length out) ≡ None = verdict-fine (write_call_refusal table m (length out)) e refl in
       record {
         answer = rw good;
         table-after = rw good (rw d at s.table-after);

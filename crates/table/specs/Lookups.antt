@@ -1,6 +1,5 @@
 -- The table looks a key up: the answer, the table's bytes after it, and the output's. Assumes nothing.
-use Rattle.std.specs.Prelude.{◌≡◌, List, ℕ, ◌≤◌, leb, length}
-use Rattle.std.proofs.Math.Option.{Option, none, some}
+use Rattle.std.specs.Prelude.{◌≡◌, List, ℕ, ◌≤◌, leb, length, Option, None, Some}
 use Rattle.ends.specs.Records.{Slot, slot_at}
 use Rattle.model.specs.Refusals.{short_output}
 use Rattle.ends.specs.Ends.{Hit, counted, first_for, lookup, after_lookup}
@@ -21,12 +20,12 @@ use Rattle.table.specs.declared.LookupAnswer.TheVariants.{Refused, Miss, Hit as 
 
 -- 5: an output of out_len bytes is shorter than a report
 abbrev pub short_for_report : ℕ → Option Refusal
-short_for_report out_len = need (leb report_size out_len) short_output none
+short_for_report out_len = need (leb report_size out_len) short_output None
 
 -- only a hit has an answer to write
 abbrev pub hit_refusal : {A : Type 0} → Option A → ℕ → Option Refusal
-hit_refusal none out_len = none
-hit_refusal (some h) out_len = short_for_report out_len
+hit_refusal None out_len = None
+hit_refusal (Some h) out_len = short_for_report out_len
 
 -- key 1; table 4; then 5
 unfoldable pub lookup_refusal : List ℕ → List ℕ → ℕ → Option Refusal
@@ -37,14 +36,14 @@ lookup_refusal key table out_len =
 pub record GoodLookup (key table : List ℕ) (out_len : ℕ) : Type 0 where
   pub long : length key ≡ key_size
   pub whole : WholeSlots table
-  pub fits : (i : ℕ) → first_for positions (slots key_size table) key ≡ some i → report_size ≤ out_len
+  pub fits : (i : ℕ) → first_for positions (slots key_size table) key ≡ Some i → report_size ≤ out_len
 
 -- ---- the slot that is found
 
 abbrev pub found_of : Option Refusal → Option ℕ → Found
-found_of (some r) found = FoundRefused r
-found_of none none = FoundMiss
-found_of none (some i) = FoundSlot i
+found_of (Some r) found = FoundRefused r
+found_of None None = FoundMiss
+found_of None (Some i) = FoundSlot i
 
 unfoldable pub find_answer : List ℕ → List ℕ → ℕ → Found
 find_answer key table out_len = found_of (lookup_refusal key table out_len) (first_for positions (slots key_size table) key)
@@ -53,9 +52,9 @@ find_answer key table out_len = found_of (lookup_refusal key table out_len) (fir
 
 -- the refusal, or what the table answers
 abbrev pub lookup_answer_of : Option Refusal → Option Hit → LookupAnswer
-lookup_answer_of (some r) hit = Refused r
-lookup_answer_of none none = Miss
-lookup_answer_of none (some h) = HitAt h.slot h.rule h.action
+lookup_answer_of (Some r) hit = Refused r
+lookup_answer_of None None = Miss
+lookup_answer_of None (Some h) = HitAt h.slot h.rule h.action
 
 unfoldable pub lookup_answer : List ℕ → List ℕ → ℕ → LookupAnswer
 lookup_answer key table out_len = lookup_answer_of (lookup_refusal key table out_len) (lookup positions (slots key_size table) key)
@@ -67,8 +66,8 @@ slots_after_lookup key table out_len =
 
 -- and the table's bytes: on a hit those of that slot are replaced, and no other
 abbrev pub counted_bytes : List ℕ → Option ℕ → List ℕ
-counted_bytes table none = table
-counted_bytes table (some i) = put_slot key_size table i (counted (slot_at (slots key_size table) i))
+counted_bytes table None = table
+counted_bytes table (Some i) = put_slot key_size table i (counted (slot_at (slots key_size table) i))
 
 unfoldable pub table_after_lookup : List ℕ → List ℕ → ℕ → List ℕ
 table_after_lookup key table out_len =
@@ -76,8 +75,8 @@ table_after_lookup key table out_len =
 
 -- the report of a hit at the start of the output; its other bytes stay
 abbrev pub told_of : Option Hit → List ℕ → List ℕ
-told_of none out = out
-told_of (some h) out = splice 0 (encode_report h.report) out
+told_of None out = out
+told_of (Some h) out = splice 0 (encode_report h.report) out
 
 unfoldable pub out_after_lookup : List ℕ → List ℕ → List ℕ → List ℕ
 out_after_lookup key table out =

@@ -1,6 +1,5 @@
 -- The table receives a write: the answer, the table's bytes after it, and the output's. Assumes nothing.
-use Rattle.std.specs.Prelude.{◌≡◌, not, List, ℕ, ◌≤◌, ◌<◌, ltb, eqb, length, get_or}
-use Rattle.std.proofs.Math.Option.{Option, none}
+use Rattle.std.specs.Prelude.{◌≡◌, not, List, ℕ, ◌≤◌, ◌<◌, ltb, eqb, length, get_or, Option, None}
 use Rattle.ends.specs.Records.{Slot}
 use Rattle.model.specs.Refusals.{ragged, bad_record, wrong_kind, no_such_slot, sequence_zero}
 use Rattle.ends.specs.Ends.{after_write, write_report}
@@ -27,7 +26,7 @@ write_message_refusal m count =
     (need (eqb (get_or m write_kind 0) is_write) wrong_kind
     (need (not (is_flawed (write_flaw key_size m))) bad_record
     (need (ltb (decode_write key_size m).slot count) no_such_slot
-    (need (not (eqb (decode_write key_size m).sequence 0)) sequence_zero none))))
+    (need (not (eqb (decode_write key_size m).sequence 0)) sequence_zero None))))
 
 -- table 4; the message's; then 5
 unfoldable pub write_call_refusal : List ℕ → List ℕ → ℕ → Option Refusal

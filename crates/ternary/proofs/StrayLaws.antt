@@ -3,7 +3,7 @@
 use mathlib.Core.Path.{◌≡◌, refl, sym, ap, ◌∙◌}
 use mathlib.Core.Bool.{Bool, true, false, not, ◌||◌}
 use mathlib.Core.List.{List}
-use mathlib.Core.Option.{Option, none, some}
+use Rattle.std.specs.Prelude.{Option, None, Some}
 use Prim.Native.Nat.{ℕ, ◌*◌, ◌≤◌, ◌<◌}
 use native.Mathlib.Nat.{le_refl}
 use native.Mathlib.Omega.{arith}
@@ -18,13 +18,13 @@ use Rattle.ternary.specs.Strays.{stray_of}
 use Rattle.ternary.specs.declared.bits.Stray.TheVariants.{Clean, At}
 
 -- what each answer says
-pub of-clean : (o : Option ℕ) → Clean ≡ stray_of o → o ≡ none
-of-clean none e = refl
-of-clean (some i) e = let z : ◌≡◌ {A = ℕ} 0 1 = cc in absurd (omega arith)
+pub of-clean : (o : Option ℕ) → Clean ≡ stray_of o → o ≡ None
+of-clean None e = refl
+of-clean (Some i) e = let z : ◌≡◌ {A = ℕ} 0 1 = cc in absurd (omega arith)
 
-pub of-stray : (o : Option ℕ) (i : ℕ) → At i ≡ stray_of o → o ≡ some i
-of-stray none i e = let z : ◌≡◌ {A = ℕ} 0 1 = cc in absurd (omega arith)
-of-stray (some k) i e = cc
+pub of-stray : (o : Option ℕ) (i : ℕ) → At i ≡ stray_of o → o ≡ Some i
+of-stray None i e = let z : ◌≡◌ {A = ℕ} 0 1 = cc in absurd (omega arith)
+of-stray (Some k) i e = cc
 
 not-not : (b : Bool) → b ≡ not (not b)
 not-not true = refl
@@ -46,18 +46,18 @@ module _ (w : ℕ) (value mask : List ℕ) where
   unfolding canonical stray_in
   canonical-bytes = all_blocks (λ p. exact_at mask p || eqb (bit_at value p) 0) (λ i. not (stray_in value mask i)) w (λ i _. not-not _)
 
-  pub canonical-clean : first_stray w value mask ≡ none → canonical (w * 8) value mask ≡ true
+  pub canonical-clean : first_stray w value mask ≡ None → canonical (w * 8) value mask ≡ true
   unfolding first_stray
   canonical-clean e =
       canonical-bytes ∙ all_of (λ i. not (stray_in value mask i)) w (λ i l. ap not (foremost-none (stray_in value mask) ltb w e i l))
 
-  pub canonical-stray : (i : ℕ) → first_stray w value mask ≡ some i → canonical (w * 8) value mask ≡ false
+  pub canonical-stray : (i : ℕ) → first_stray w value mask ≡ Some i → canonical (w * 8) value mask ≡ false
   unfolding first_stray
   canonical-stray i e =
       let here = foremost-some (stray_in value mask) ltb w i e in
       canonical-bytes ∙ all-fails (λ i. not (stray_in value mask i)) w i here.0 (ap not here.1)
 
-  pub clean-canonical : canonical (w * 8) value mask ≡ true → first_stray w value mask ≡ none
+  pub clean-canonical : canonical (w * 8) value mask ≡ true → first_stray w value mask ≡ None
   unfolding first_stray
   clean-canonical e =
       first-missed (stray_in value mask) w w

@@ -2,8 +2,7 @@
 use mathlib.Core.Path.{◌≡◌, refl, sym, ap, ◌∙◌}
 use mathlib.Core.Bool.{true, cond}
 use mathlib.Core.List.{List, [], ◌∷◌, ◌++◌}
-use mathlib.Core.Option
-use mathlib.Core.Option.{Option, none, some}
+use Rattle.std.specs.Prelude.{Option, None, Some}
 use Prim.Native.Nat.{ℕ, suc, ◌+◌, ◌-◌, ◌*◌, ◌%◌, ◌≤◌, ◌<◌}
 use native.Mathlib.Omega.{arith}
 use borrow.Author.Tests.{ltb-false, leb-true, leb-false, eqb-true, eqb-false, lt-ltb, le-ltb, eq-eqb, ne_eqb, le-leb}
@@ -49,7 +48,7 @@ read_slots text =
 
 -- the text passed every test, and gives r
 record Read (text : List ℕ) (r : ℕ) : Type 0 where
-  pub some : 1 ≤ r
+  pub Some : 1 ≤ r
   pub few : r ≤ most_slots
   pub long : 2 ≤ length text
   pub short : length text ≤ 4
@@ -69,7 +68,7 @@ read-passed text =
     (λ c. cond-elim P (eqb (get_or text 0 0) 48) (λ e. zero)
     (λ d. cond-elim P (ltb most_slots n) (λ e. zero)
     (λ f h. record {
-      some = h;
+      Some = h;
       few = ltb-false most_slots n f;
       long = ltb-false (length text) 2 a;
       short = ltb-false 4 (length text) b;
@@ -140,14 +139,14 @@ slots_read : (text : List ℕ) → slots_in text ≡ read_slots text
 unfolding slots_in
 slots_read text = go (first_below (says_slots text) (suc most_slots)) refl
   where
-    none_read : first_below (says_slots text) (suc most_slots) ≡ none → 1 ≤ read_slots text → 0 ≡ read_slots text
+    none_read : first_below (says_slots text) (suc most_slots) ≡ None → 1 ≤ read_slots text → 0 ≡ read_slots text
     none_read e h =
         let p = read-passed text h in
         clash (read-line text (read_slots text) p) (foremost-none (says_slots text) ltb (suc most_slots) e (read_slots text) (omega (arith, p.few)))
 
     go : (o : Option ℕ) → first_below (says_slots text) (suc most_slots) ≡ o → Option.get_or o 0 ≡ read_slots text
-    go none e = by_cases (leb 1 (read_slots text)) (λ h. none_read e (leb-true 1 (read_slots text) h)) (λ h. omega (arith, leb-false))
-    go (some n) e =
+    go None e = by_cases (leb 1 (read_slots text)) (λ h. none_read e (leb-true 1 (read_slots text) h)) (λ h. omega (arith, leb-false))
+    go (Some n) e =
         let f = first-at (says_slots text) (suc most_slots) n e in
         sym (line_read text n f.0 f.1)
 
@@ -156,8 +155,8 @@ unfolding slots_in
 slots-few text = go (first_below (says_slots text) (suc most_slots)) refl
   where
     go : (o : Option ℕ) → first_below (says_slots text) (suc most_slots) ≡ o → Option.get_or o 0 ≤ most_slots
-    go none e = omega arith
-    go (some n) e = omega (arith, (first-at (says_slots text) (suc most_slots) n e).0)
+    go None e = omega arith
+    go (Some n) e = omega (arith, (first-at (says_slots text) (suc most_slots) n e).0)
 
 -- ---- what is read, test by test
 

@@ -1,6 +1,5 @@
 -- How many slots slots.txt gives. Assumes nothing.
-use Rattle.std.specs.Prelude.{Bool, true, false, ◌&&◌, List, [], ◌∷◌, ℕ, suc, leb, eqb}
-use Rattle.std.proofs.Math.Option.{get_or}
+use Rattle.std.specs.Prelude.{Bool, true, false, ◌&&◌, List, [], ◌∷◌, ℕ, suc, leb, eqb, unwrap_or}
 use Rattle.model.specs.Below.{first_below}
 use Rattle.records.specs.Layout.{most_slots}
 use Rattle.text.specs.Decimal.{decimal}
@@ -19,4 +18,4 @@ says_slots text n = leb 1 n && same text (line_of (decimal n ∷ []))
 
 -- the number up to 256 that the text is; 0 where it is none
 unfoldable pub slots_in : List ℕ → ℕ
-slots_in text = get_or (first_below (says_slots text) (suc most_slots)) 0
+slots_in text = unwrap_or (first_below (says_slots text) (suc most_slots)) 0

@@ -1,7 +1,7 @@
 -- The places that the answers tell are those of the parts that are shown. Assumes nothing.
 use mathlib.Core.Path.{◌≡◌, refl}
 use mathlib.Core.List.{List, []}
-use mathlib.Core.Option.{Option, none, some}
+use Rattle.std.specs.Prelude.{Option, None, Some}
 use Prim.Native.Nat.{ℕ}
 use Rattle.ternary.specs.Sizes.{key_size}
 use Rattle.buffers.specs.Parts.{chunk}
@@ -23,8 +23,8 @@ of-answer policy table (FromPolicy r) = refl
 
 of-record : (policy : List ℕ) (number : ℕ) (o : Option Refusal)
     → record_at policy (record_for_c (verdict_of o) number) ≡ unless_refused o [] (chunk (rule_size key_size) policy number)
-of-record policy number (some r) = refl
-of-record policy number none = refl
+of-record policy number (Some r) = refl
+of-record policy number None = refl
 
 pub named-parts : (policy key table : List ℕ) (number : ℕ) → NamedParts policy key table number
 unfolding shown_part record_answer shown_record

@@ -1,7 +1,7 @@
 -- `checks::flaw::stray_flaw` meets its contract: the rows that are lent are parts of the record. Assumes nothing.
 use borrow.Author.Rules.{rules}
 use mathlib.Core.Path.{◌≡◌}
-use mathlib.Core.Option.{none, some}
+use Rattle.std.specs.Prelude.{None, Some}
 use mathlib.Core.List.{List}
 use Prim.Native.Nat.{ℕ, ◌+◌, ◌-◌, ◌≤◌}
 use native.Mathlib.Omega.{arith}
@@ -26,7 +26,7 @@ told value mask r inside is = rw (add-sub_cancel_left value key_size, add-sub_ca
 -- a stray bit lies inside the row
 found : (c : goal.In-At)
     → let a = c.args in
-    first_stray key_size (part key_size a.value a.r.now) (part key_size a.mask a.r.now) ≡ some c.in-At.i
+    first_stray key_size (part key_size a.value a.r.now) (part key_size a.mask a.r.now) ≡ Some c.in-At.i
 found c = of-stray _ _ (told c.args.value c.args.mask c.args.r.now (omega arith) c.in-At.ensures)
 
 pub overflow_add-result : goal.overflow_add-result
@@ -35,7 +35,7 @@ overflow_add-result c = let l = stray-inside key_size _ _ _ (found c) in search 
 -- or there is none
 missed : (c : goal.In-Clean)
     → let a = c.args in
-    first_stray key_size (part key_size a.value a.r.now) (part key_size a.mask a.r.now) ≡ none
+    first_stray key_size (part key_size a.value a.r.now) (part key_size a.mask a.r.now) ≡ None
 missed c = of-clean _ (told c.args.value c.args.mask c.args.r.now (omega arith) c.in-Clean.ensures)
 
 pub returns-in-Clean : goal.returns-in-Clean
