@@ -9,7 +9,7 @@ use native.Mathlib.Omega.{arith}
 use lib.Dec.{leb, eqb}
 use lib.ListN.{length}
 use borrow.Author.Tests.{eqb-true, leb-true, eq-eqb, le-leb}
-use Rattle.model.specs.Refusals.{bad_slots}
+use Rattle.checks.specs.declared.refusal.Refusal.TheVariants.{BadSlots}
 use Rattle.model.proofs.Cases.{and_left, and_right}
 use Rattle.ternary.specs.Sizes.{key_size}
 use Rattle.records.specs.Layout.{slot_size, most_slots}
@@ -41,4 +41,4 @@ module _ (bs : List ℕ) where
   -- not refused are exactly the buffers of 1 to 256 whole slots
   pub slots-accepted : (slots_refusal bs ≡ None) ↔ WholeSlots bs
   unfolding slots_refusal
-  slots-accepted = (λ e. fit-whole (need-none (slots_fit bs) bad_slots None e).0, λ h. rw (whole-fit h))
+  slots-accepted = (λ e. fit-whole (need-none (slots_fit bs) BadSlots None e).0, λ h. rw (whole-fit h))

@@ -1,6 +1,6 @@
 -- How an end's buffer of slots is refused. Assumes nothing.
 use Rattle.std.specs.Prelude.{Bool, ◌&&◌, List, ℕ, ◌%◌, leb, eqb, length, Option, None}
-use Rattle.model.specs.Refusals.{bad_slots}
+use Rattle.checks.specs.declared.refusal.Refusal.TheVariants.{BadSlots}
 use Rattle.ternary.specs.Sizes.{key_size}
 use Rattle.records.specs.Layout.{slot_size, most_slots}
 use Rattle.checks.specs.Refusals.{need}
@@ -14,4 +14,4 @@ slots_fit bs =
 
 -- 4: not such a buffer
 unfoldable pub slots_refusal : List ℕ → Option Refusal
-slots_refusal bs = need (slots_fit bs) bad_slots None
+slots_refusal bs = need (slots_fit bs) BadSlots None

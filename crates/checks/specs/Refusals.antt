@@ -1,36 +1,51 @@
--- A refusal: its number and its place. Assumes nothing.
-use Rattle.std.specs.Prelude.{Bool, true, false, ℕ, Option, None, Some}
+-- A refusal: its number and its place; a call's answer. Assumes nothing.
+use Rattle.std.specs.Prelude.{Bool, true, false, ℕ, Option, None, Some, Result, Ok, Err, ⊤}
+use Rattle.model.specs.Refusals as number
 use Rattle.checks.specs.declared.refusal.Refusal.{Refusal}
-use Rattle.checks.specs.declared.refusal.Verdict.{Verdict}
-use Rattle.checks.specs.declared.refusal.Verdict.TheVariants.{Refused, Fine}
-use Rattle.checks.specs.declared.refusal.CountAnswer.{CountAnswer}
-use Rattle.checks.specs.declared.refusal.CountAnswer.TheVariants.{Refused as CountRefused, Count}
+use Rattle.checks.specs.declared.refusal.Refusal.TheVariants.{Ragged, TooMany, BadRecord, BadSlots, ShortOutput, NoSuchRule, NotBest}
+use Rattle.checks.specs.declared.refusal.Refusal.TheVariants.{WrongKind, NoSuchSlot, SequenceZero, ReportAhead, LengthsDiffer, TotalsFull}
 
--- the refusal with this number, at this place
-abbrev pub refusal : ℕ → ℕ → Refusal
-refusal number place = record { number = number; place = place }
+-- the number that a refusal carries
+abbrev pub number_of : Refusal → ℕ
+number_of Ragged = number.ragged
+number_of TooMany = number.too_many
+number_of (BadRecord place) = number.bad_record
+number_of BadSlots = number.bad_slots
+number_of ShortOutput = number.short_output
+number_of NoSuchRule = number.no_such_rule
+number_of NotBest = number.not_best
+number_of WrongKind = number.wrong_kind
+number_of NoSuchSlot = number.no_such_slot
+number_of SequenceZero = number.sequence_zero
+number_of ReportAhead = number.report_ahead
+number_of LengthsDiffer = number.lengths_differ
+number_of TotalsFull = number.totals_full
+
+-- and its place: the bad record's, and 0 in every other case
+abbrev pub place_of : Refusal → ℕ
+place_of (BadRecord place) = place
+place_of _ = 0
 
 -- the first of two tests' refusals
 abbrev pub or_else : Option Refusal → Option Refusal → Option Refusal
 or_else (Some r) later = Some r
 or_else None later = later
 
--- refused with this number where the test fails, else as the later tests say
-abbrev pub need : Bool → ℕ → Option Refusal → Option Refusal
-need true number later = later
-need false number later = Some (refusal number 0)
+-- refused so where the test fails, else as the later tests say
+abbrev pub need : Bool → Refusal → Option Refusal → Option Refusal
+need true refusal later = later
+need false refusal later = Some refusal
 
 -- the one where the call is refused, the other where it is not
 abbrev pub unless_refused : {A : Type 0} → Option Refusal → A → A → A
 unless_refused (Some r) old new = old
 unless_refused None old new = new
 
--- of what a call is lent: the refusal, or that there is none
-abbrev pub verdict_of : Option Refusal → Verdict
-verdict_of (Some r) = Refused r
-verdict_of None = Fine
+-- the refusal, or what is answered where there is none
+abbrev pub answer_of : {A : Type 0} → Option Refusal → A → Result A Refusal
+answer_of (Some r) x = Err r
+answer_of None x = Ok x
 
--- the refusal, or the count
-abbrev pub count_answer_of : Option Refusal → ℕ → CountAnswer
-count_answer_of (Some r) n = CountRefused r
-count_answer_of None n = Count n
+-- the same of a call that answers nothing more
+abbrev pub verdict_of : Option Refusal → Result ⊤ Refusal
+verdict_of refused = answer_of refused tt

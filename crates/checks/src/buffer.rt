@@ -4,15 +4,13 @@ ghost use Rattle.checks.specs.BufferRefusals.{slots_fit};
 
 use records::layout;
 
-// Whether a buffer is one of 1 to 256 whole slots; else it is refused as BAD_SLOTS.
+// Whether a buffer is one of 1 to 256 whole slots; else it is refused as `BadSlots`.
 pub fn slots_fit(s: &[u8]) -> bool
     ensures { result ≡ slots_fit s.now }
 {
     if s.len() % layout::SLOT_SIZE != 0 {
         return false;
     }
-    if s.len() / layout::SLOT_SIZE < 1 {
-        return false;
-    }
-    s.len() / layout::SLOT_SIZE <= layout::MOST_SLOTS
+    let count = s.len() / layout::SLOT_SIZE;
+    1 <= count && count <= layout::MOST_SLOTS
 }

@@ -2,20 +2,19 @@
 ghost use Rattle.std.specs.Prelude.{◌≡◌, ◌+◌, ◌-◌, ◌≤◌, length};
 ghost use Rattle.ternary.specs.Sizes.{key_size};
 ghost use Rattle.records.specs.Layout.{rule_size, trace_size, write_size, report_size};
-ghost use Rattle.checks.specs.Flaws.{first_told, flaw_of, first_nonzero, offsets, stray_byte_in, rule_flaw, trace_flaw, write_flaw, report_flaw};
+ghost use Rattle.checks.specs.Flaws.{flaw_of, first_nonzero, offsets, stray_byte_in, rule_flaw, trace_flaw, write_flaw, report_flaw};
 
 use records::layout;
 
 // What is wrong with a record, with the lowest byte of it that is: a spare byte is told before a value bit.
-#[derive(Clone, Copy)]
+#[derive(Clone, Copy, Debug, PartialEq, Eq)]
 pub enum Flaw {
-    Clean,
     Spare(usize),
     Stray(usize),
 }
 
 // The value bits of a record under its wildcards, as a flaw: rows at `value` and at `mask`.
-fn stray_flaw(r: &[u8], value: usize, mask: usize) -> Flaw
+fn stray_flaw(r: &[u8], value: usize, mask: usize) -> Option<Flaw>
     requires { (value + key_size ≤ length r.now) × (mask + key_size ≤ length r.now) }
     ensures { result ≡ flaw_of None (stray_byte_in key_size value mask r.now) }
 {
@@ -23,48 +22,36 @@ fn stray_flaw(r: &[u8], value: usize, mask: usize) -> Flaw
         &r[value..value + layout::KEY_SIZE],
         &r[mask..mask + layout::KEY_SIZE],
     ) {
-        ternary::bits::Stray::Clean => Flaw::Clean,
-        ternary::bits::Stray::At(i) => Flaw::Stray(value + i),
+        ternary::bits::Stray::Clean => None,
+        ternary::bits::Stray::At(i) => Some(Flaw::Stray(value + i)),
     }
 }
 
 // The bytes from `at` up to `end`, which must be zero, as a flaw: the first that is not.
-fn spare_flaw(r: &[u8], at: usize, end: usize) -> Flaw
+fn spare_flaw(r: &[u8], at: usize, end: usize) -> Option<Flaw>
     requires { end ≤ length r.now }
     ensures { result ≡ flaw_of (first_nonzero (offsets at (end - at)) r.now) None }
 {
-    let mut i = at;
-    while i < end {
-        if r[i] != 0 {
-            return Flaw::Spare(i);
+    for i in at..end {
+        let byte = r[i];
+        if byte != 0 {
+            return Some(Flaw::Spare(i));
         }
-        i += 1;
     }
-    Flaw::Clean
-}
-
-// Of two flaws the one that is told: the first, and where it is none the later.
-fn first_told(first: Flaw, later: Flaw) -> Flaw
-    ensures { result ≡ first_told first later }
-{
-    match first {
-        Flaw::Clean => later,
-        Flaw::Spare(_) => first,
-        Flaw::Stray(_) => first,
-    }
+    None
 }
 
 // The flaw of a rule's record.
-pub(crate) fn rule_flaw(r: &[u8]) -> Flaw
+pub(crate) fn rule_flaw(r: &[u8]) -> Option<Flaw>
     requires { length r.now ≡ rule_size key_size }
     ensures { result ≡ rule_flaw key_size r.now }
 {
     let spare = spare_flaw(r, layout::RULE_SPARE, layout::RULE_SIZE);
-    first_told(spare, stray_flaw(r, layout::RULE_VALUE, layout::RULE_MASK))
+    spare.or(stray_flaw(r, layout::RULE_VALUE, layout::RULE_MASK))
 }
 
 // The flaw of a trace's record.
-pub(crate) fn trace_flaw(r: &[u8]) -> Flaw
+pub(crate) fn trace_flaw(r: &[u8]) -> Option<Flaw>
     requires { length r.now ≡ trace_size key_size }
     ensures { result ≡ trace_flaw key_size r.now }
 {
@@ -72,18 +59,18 @@ pub(crate) fn trace_flaw(r: &[u8]) -> Flaw
 }
 
 // The flaw of a write.
-pub fn write_flaw(r: &[u8]) -> Flaw
+pub fn write_flaw(r: &[u8]) -> Option<Flaw>
     requires { length r.now ≡ write_size key_size }
     ensures { result ≡ write_flaw key_size r.now }
 {
     let zero = spare_flaw(r, layout::WRITE_ZERO, layout::WRITE_SLOT);
     let spare = spare_flaw(r, layout::WRITE_SPARE, layout::WRITE_SIZE);
     let stray = stray_flaw(r, layout::WRITE_VALUE, layout::WRITE_MASK);
-    first_told(zero, first_told(spare, stray))
+    zero.or(spare.or(stray))
 }
 
 // The flaw of a report.
-pub fn report_flaw(r: &[u8]) -> Flaw
+pub fn report_flaw(r: &[u8]) -> Option<Flaw>
     requires { length r.now ≡ report_size }
     ensures { result ≡ report_flaw r.now }
 {

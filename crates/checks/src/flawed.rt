@@ -1,78 +1,114 @@
-// The first flawed record of a policy, and of a trace.
-ghost use Rattle.std.specs.Prelude.{◌≡◌};
+// Records that are checked as a whole: how many there may be, and the first one with a flaw.
+ghost use Rattle.std.specs.Prelude.{◌≡◌, ℕ, ◌/◌, ◌<◌, List, length, Option};
 ghost use Rattle.ternary.specs.Sizes.{key_size};
-ghost use Rattle.records.specs.Rules.{rule_count};
-ghost use Rattle.records.specs.Traces.{packet_count};
-ghost use Rattle.checks.specs.Flaws.{is_flawed};
-ghost use Rattle.checks.specs.Refusals.{verdict_of};
-ghost use Rattle.checks.specs.Flawed.{first_flawed, rule_flaw_at, trace_flaw_at, flaw_refusal};
+ghost use Rattle.records.specs.Layout.{rule_size, trace_size, most_rules, most_packets};
+ghost use Rattle.checks.specs.Flaws.{rule_flaw, trace_flaw};
+ghost use Rattle.checks.specs.Refusals.{answer_of};
+ghost use Rattle.checks.specs.Flawed.{first_flawed, flaw_at, records_refusal};
+ghost use Rattle.checks.specs.declared.flaw.Flaw.{Flaw as FlawOf};
 
-use crate::flaw::Flaw;
-use crate::refusal;
-use crate::refusal::{Refusal, Verdict};
+use crate::flaw::{Flaw, rule_flaw, trace_flaw};
+use crate::refusal::Refusal;
 use records::layout;
 
-// Whether it is a flaw.
-fn is_flawed(flaw: Flaw) -> bool
-    ensures { result ≡ is_flawed flaw }
-{
-    match flaw {
-        Flaw::Clean => false,
-        Flaw::Spare(_) => true,
-        Flaw::Stray(_) => true,
+// A kind of record: its size, how many there may be, and what is wrong with one.
+pub trait Record {
+    ghost SIZE: { ℕ };
+    ghost MOST: { ℕ };
+    ghost flaw_of: { List ℕ → Option FlawOf };
+
+    const SIZE: usize;
+
+    const MOST: usize;
+
+    fn flaw(bytes: &[u8]) -> Option<Flaw>
+        requires { length bytes.now ≡ SIZE }
+        ensures { result ≡ flaw_of bytes.now };
+
+    ghost some_bytes: { 0 < SIZE };
+}
+
+// A policy's rule.
+pub struct Rule;
+
+impl Record for Rule {
+    ghost use Rattle.std.proofs.Common.{lit<};
+
+    ghost SIZE = { rule_size key_size };
+
+    ghost MOST = { most_rules };
+
+    ghost flaw_of = { rule_flaw key_size };
+
+    ghost some_bytes = { lit< tt };
+
+    const SIZE: usize = layout::RULE_SIZE;
+
+    const MOST: usize = layout::MOST_RULES;
+
+    fn flaw(bytes: &[u8]) -> Option<Flaw> {
+        rule_flaw(bytes)
     }
 }
 
-// The first record with a flaw, and its flaw.
-#[derive(Clone, Copy)]
-pub enum FirstFlaw {
-    AllClean,
-    Flawed { place: usize, flaw: Flaw },
-}
+// A trace's packet.
+pub struct Packet;
 
-// The refusal of the first flawed record, if there is one: 3, with its place.
-pub fn flaw_verdict(first: FirstFlaw) -> Verdict
-    ensures { result ≡ verdict_of (flaw_refusal first) }
-{
-    match first {
-        FirstFlaw::AllClean => Verdict::Fine,
-        FirstFlaw::Flawed { place, .. } => Verdict::Refused(Refusal {
-            number: refusal::BAD_RECORD,
-            place,
-        }),
+impl Record for Packet {
+    ghost use Rattle.std.proofs.Common.{lit<};
+
+    ghost SIZE = { trace_size key_size };
+
+    ghost MOST = { most_packets };
+
+    ghost flaw_of = { trace_flaw key_size };
+
+    ghost some_bytes = { lit< tt };
+
+    const SIZE: usize = layout::TRACE_SIZE;
+
+    const MOST: usize = layout::MOST_PACKETS;
+
+    fn flaw(bytes: &[u8]) -> Option<Flaw> {
+        trace_flaw(bytes)
     }
 }
 
-// The first flawed rule of a policy.
-pub fn first_flawed_rule(policy: &[u8]) -> FirstFlaw
-    ensures { result ≡ first_flawed (rule_flaw_at key_size policy.now) (rule_count key_size policy.now) }
+// A record with a flaw, by its place.
+#[derive(Clone, Copy, Debug, PartialEq, Eq)]
+pub struct Flawed {
+    pub place: usize,
+    pub flaw: Flaw,
+}
+
+// The first record with a flaw.
+pub fn first_flawed<R: Record>(records: &[u8]) -> Option<Flawed>
+    ensures { result ≡ first_flawed (flaw_at R.flaw_of R.SIZE records.now) (length records.now / R.SIZE) }
 {
-    let n = policy.len() / layout::RULE_SIZE;
-    let mut i = 0;
-    while i < n {
-        let at = layout::RULE_SIZE * i;
-        let flaw = crate::flaw::rule_flaw(&policy[at..at + layout::RULE_SIZE]);
-        if is_flawed(flaw) {
-            return FirstFlaw::Flawed { place: i, flaw };
+    let size = R::SIZE;
+    for place in 0..records.len() / size {
+        let at = size * place;
+        if let Some(flaw) = R::flaw(&records[at..at + size]) {
+            return Some(Flawed { place, flaw });
         }
-        i += 1;
     }
-    FirstFlaw::AllClean
+    None
 }
 
-// The first flawed record of a trace.
-pub fn first_flawed_packet(trace: &[u8]) -> FirstFlaw
-    ensures { result ≡ first_flawed (trace_flaw_at key_size trace.now) (packet_count key_size trace.now) }
+// How many records there are: refused as 1 where the last is cut off, as 2 where there are too many, and as 3 with the place of the first that has a
+// flaw.
+pub fn record_count<R: Record>(records: &[u8]) -> Result<usize, Refusal>
+    ensures { result ≡ answer_of (records_refusal R.SIZE R.MOST R.flaw_of records.now) (length records.now / R.SIZE) }
 {
-    let n = trace.len() / layout::TRACE_SIZE;
-    let mut i = 0;
-    while i < n {
-        let at = layout::TRACE_SIZE * i;
-        let flaw = crate::flaw::trace_flaw(&trace[at..at + layout::TRACE_SIZE]);
-        if is_flawed(flaw) {
-            return FirstFlaw::Flawed { place: i, flaw };
-        }
-        i += 1;
+    if records.len() % R::SIZE != 0 {
+        return Err(Refusal::Ragged);
     }
-    FirstFlaw::AllClean
+    let count = records.len() / R::SIZE;
+    if count > R::MOST {
+        return Err(Refusal::TooMany);
+    }
+    match first_flawed::<R>(records) {
+        Some(Flawed { place, .. }) => Err(Refusal::BadRecord { place }),
+        None => Ok(count),
+    }
 }

@@ -7,10 +7,10 @@ pub returns-then-s-ne0 : goal.returns-then-s-ne0
 unfolding slots_fit
 returns-then-s-ne0 c = rw (ne_eqb _ _ c.if-s-ne0.true)
 
-pub returns-then-s-lt1 : goal.returns-then-s-lt1
+pub returns-then-count-ge1 : goal.returns-then-count-ge1
 unfolding slots_fit
-returns-then-s-lt1 c = rw (eq-eqb _ _ c.if-s-ne0.false, lt-leb 1 _ c.if-s-lt1.true)
+returns-then-count-ge1 c = rw (eq-eqb _ _ c.if-s-ne0.false, le-leb 1 _ c.if-count-ge1.true)
 
-pub returns : goal.returns
+pub returns-else-count-ge1 : goal.returns-else-count-ge1
 unfolding slots_fit
-returns c = rw (eq-eqb _ _ c.if-s-ne0.false, le-leb 1 _ c.if-s-lt1.false)
+returns-else-count-ge1 c = rw (eq-eqb _ _ c.if-s-ne0.false, lt-leb 1 _ c.if-count-ge1.false)

@@ -10,6 +10,6 @@ pub returns : goal.returns
 unfolding rule_flaw
 returns c =
     let r = c.args.r.now in
-    c.first_told.ensures
+    c.or.ensures
     ∙ rw (c.spare_flaw-spare.ensures, c.stray_flaw.ensures)
     (spare-first (first_nonzero (rule_spares key_size) r) (stray_byte_in key_size rule_value (rule_mask key_size) r))

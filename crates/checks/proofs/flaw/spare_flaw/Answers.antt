@@ -6,8 +6,8 @@ use Rattle.checks.proofs.flaw.spare_flaw.Goals as goal
 pub loop-i-init : goal.loop-i-init
 loop-i-init c = search (rules, left-all)
 
-pub returns-then-r-i-ne0 : goal.returns-then-r-i-ne0
-returns-then-r-i-ne0 c = search (rules, left_here)
+pub returns-then-byte-ne0 : goal.returns-then-byte-ne0
+returns-then-byte-ne0 c = search (rules, left_here)
 
 pub loop-i-preserved : goal.loop-i-preserved
 loop-i-preserved c = search (rules, left-more)
