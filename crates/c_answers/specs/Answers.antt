@@ -1,9 +1,6 @@
 -- The numbers that C is told of an answer. A refusal: its number and its place, the rest 0. Assumes nothing.
+use Rattle.std.specs.Prelude.{Result, Ok, Err, ⊤}
 use Rattle.ends.specs.Trace.{nothing}
-use Rattle.checks.specs.declared.refusal.Verdict.{Verdict}
-use Rattle.checks.specs.declared.refusal.Verdict.TheVariants.{Refused, Fine}
-use Rattle.checks.specs.declared.refusal.CountAnswer.{CountAnswer}
-use Rattle.checks.specs.declared.refusal.CountAnswer.TheVariants.{Refused as CountRefused, Count}
 use Rattle.policy.specs.declared.BestAnswer.{BestAnswer}
 use Rattle.policy.specs.declared.BestAnswer.TheVariants.{Refused as BestRefused, NoRule, Rule}
 use Rattle.table.specs.declared.LookupAnswer.{LookupAnswer}
@@ -17,14 +14,14 @@ use Rattle.c_answers.specs.declared.structs.WgFound.{WgFound}
 use Rattle.c_answers.specs.declared.structs.WgOutcome.{WgOutcome}
 
 -- a write, a report
-abbrev pub done_for_c : Verdict → WgDone
-done_for_c (Refused r) = record { refusal = r.number; place = r.place }
-done_for_c Fine = record { refusal = 0; place = 0 }
+abbrev pub done_for_c : Result ⊤ Refusal → WgDone
+done_for_c (Err r) = record { refusal = r.number; place = r.place }
+done_for_c (Ok tt) = record { refusal = 0; place = 0 }
 
 -- how many rules, numbers written or packets
-abbrev pub count_for_c : CountAnswer → WgCount
-count_for_c (CountRefused r) = record { refusal = r.number; place = r.place; count = 0 }
-count_for_c (Count n) = record { refusal = 0; place = 0; count = n }
+abbrev pub count_for_c : Result ℕ Refusal → WgCount
+count_for_c (Err r) = record { refusal = r.number; place = r.place; count = 0 }
+count_for_c (Ok n) = record { refusal = 0; place = 0; count = n }
 
 -- no rule: 65,535, and action 0
 abbrev pub best_for_c : BestAnswer → WgBestAnswer

@@ -1,7 +1,7 @@
 -- The numbers of the answer that isolates, with its pattern in an output. Assumes nothing.
 use Rattle.std.specs.Prelude.{not, List, ℕ, ◌+◌, ltb, Option, None, Some}
 use Rattle.model.specs.Isolate.{Isolated}
-use Rattle.model.specs.Refusals.{short_output}
+use Rattle.checks.specs.declared.refusal.Refusal.TheVariants.{ShortOutput}
 use Rattle.ternary.specs.Sizes.{key_size}
 use Rattle.checks.specs.Refusals.{or_else, need}
 use Rattle.checks.specs.declared.refusal.Refusal.{Refusal}
@@ -15,7 +15,7 @@ pattern_size = key_size + key_size
 -- the call's own refusals; then 5, where the output has out_len bytes
 unfoldable pub pattern_refusal : List ℕ → List ℕ → ℕ → ℕ → Option Refusal
 pattern_refusal policy key number out_len =
-    or_else (isolate_refusal policy key number) (need (not (ltb out_len pattern_size)) short_output None)
+    or_else (isolate_refusal policy key number) (need (not (ltb out_len pattern_size)) ShortOutput None)
 
 abbrev pub refused_counts : Refusal → WgIsolated
 refused_counts r = record { refusal = r.number; place = r.place; fixed = 0; wildcards = 0 }

@@ -1,19 +1,17 @@
 -- Where a record lies that is shown, as numbers. Assumes nothing.
-use Rattle.std.specs.Prelude.{ℕ, ◌*◌}
+use Rattle.std.specs.Prelude.{ℕ, ◌*◌, Result, Ok, Err, ⊤}
 use Rattle.ends.specs.Trace.{nothing}
 use Rattle.ternary.specs.Sizes.{key_size}
 use Rattle.records.specs.Layout.{rule_size, slot_size}
-use Rattle.checks.specs.declared.refusal.Verdict.{Verdict}
-use Rattle.checks.specs.declared.refusal.Verdict.TheVariants.{Refused as RecordRefused, Fine}
 use Rattle.show.specs.declared.ShowAnswer.{ShowAnswer}
 use Rattle.show.specs.declared.ShowAnswer.TheVariants.{Refused as ShowRefused, NoRule as ShowNone, FromTable, FromPolicy}
 use Rattle.c_answers.specs.declared.structs.WgPart.{WgPart}
 use Rattle.c_answers.specs.declared.structs.WgShown.{WgShown}
 
 -- where the record of that number lies in the policy
-abbrev pub record_for_c : Verdict → ℕ → WgPart
-record_for_c (RecordRefused r) number = record { refusal = r.number; place = r.place; offset = 0; length = 0 }
-record_for_c Fine number = record { refusal = 0; place = 0; offset = rule_size key_size * number; length = rule_size key_size }
+abbrev pub record_for_c : Result ⊤ Refusal → ℕ → WgPart
+record_for_c (Err r) number = record { refusal = r.number; place = r.place; offset = 0; length = 0 }
+record_for_c (Ok tt) number = record { refusal = 0; place = 0; offset = rule_size key_size * number; length = rule_size key_size }
 
 -- source 0: nothing; 1: the table; 2: the policy. The record's number, and where its bytes lie in that buffer
 abbrev pub show_for_c : ShowAnswer → WgShown

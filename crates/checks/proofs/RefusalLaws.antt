@@ -43,3 +43,10 @@ module _ {A : Type 0} where
   pub answer-given : (o : Option Refusal) (x : A) {y : A} {a : Result A Refusal} → a ≡ answer_of o x → a ≡ Ok y → (o ≡ None) × (y ≡ x)
   answer-given (Some q) x e t = let z : ◌≡◌ {A = ℕ} 0 1 = cc in absurd (omega arith)
   answer-given None x e t = (refl, cc)
+
+-- the same of a call that answers nothing more
+pub verdict-refused : (o : Option Refusal) {r : Refusal} {a : Result ⊤ Refusal} → a ≡ verdict_of o → a ≡ Err r → o ≡ Some r
+verdict-refused o e t = answer-refused o tt e t
+
+pub verdict-fine : (o : Option Refusal) {a : Result ⊤ Refusal} → a ≡ verdict_of o → a ≡ Ok tt → o ≡ None
+verdict-fine o e t = (answer-given o tt e t).0

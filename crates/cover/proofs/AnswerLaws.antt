@@ -2,23 +2,20 @@
 use Prim.Native.Nat.{ℕ, ◌≤◌, ◌<◌}
 use mathlib.Core.Path.{◌≡◌, sym, ◌∙◌}
 use mathlib.Core.List.{List}
-use Rattle.std.specs.Prelude.{None, Some}
+use Rattle.std.specs.Prelude.{None, Some, Result, Ok, Err}
 use native.Mathlib.Omega.{arith}
 use lib.ListN.{length, take}
 use borrow.Author.Tests.{lt-ltb, le-ltb}
 use Rattle.model.specs.Policy.{dependents, before}
-use Rattle.model.specs.Refusals.{no_such_rule}
+use Rattle.checks.specs.declared.refusal.Refusal.TheVariants.{NoSuchRule}
 use Rattle.ternary.specs.Sizes.{key_size}
 use Rattle.records.specs.Layout.{most_rules}
 use Rattle.records.specs.Rules.{rule_count, rules}
 use Rattle.records.proofs.RuleLaws.{rule-count}
-use Rattle.checks.specs.Refusals.{refusal}
 use Rattle.checks.specs.declared.refusal.Refusal.{Refusal}
 use Rattle.policy.specs.Refusals.{policy_refusal}
 use Rattle.policy.specs.Answers.{check_answer}
 use Rattle.policy.proofs.CheckLaws.{check-refused, check-passed, check-count, passed-few}
-use Rattle.checks.specs.declared.refusal.CountAnswer.{CountAnswer}
-use Rattle.checks.specs.declared.refusal.CountAnswer.TheVariants.{Refused as Bad, Count, Refused}
 use Rattle.lists.specs.Numbers.{Lists}
 use Rattle.lists.specs.Answers.{list_refusal, Answered}
 use Rattle.lists.proofs.GatherLaws.{lists-few}
@@ -34,7 +31,7 @@ pub record Taken (policy : List ℕ) (n : ℕ) : Type 0 where
   pub counted : n ≡ rule_count key_size policy
   pub few : rule_count key_size policy ≤ most_rules
 
-pub taken_of : {policy : List ℕ} {n : ℕ} {r : CountAnswer} → r ≡ check_answer policy → r ≡ Count n → Taken policy n
+pub taken_of : {policy : List ℕ} {n : ℕ} {r : Result ℕ Refusal} → r ≡ check_answer policy → r ≡ Ok n → Taken policy n
 taken_of {policy} {n} e t =
     let passed = check-passed policy n (sym t ∙ e) in
     record { fine = passed; counted = check-count policy n (sym t ∙ e); few = passed-few policy passed }
@@ -50,19 +47,19 @@ cover-few policy number is =
 -- ---- each way out
 
 module _ (policy : List ℕ) (number : ℕ) (out : List ℕ) where
-  refused_as : {r : Refusal} → cover_refusal policy number (length out) ≡ Some r → Covered policy number out (Refused r) out
+  refused_as : {r : Refusal} → cover_refusal policy number (length out) ≡ Some r → Covered policy number out (Err r) out
   refused_as e = record { answer = rw e; out-after = rw e }
 
-  pub refused-policy : {r : Refusal} {a : CountAnswer} → a ≡ check_answer policy → a ≡ Bad r → Covered policy number out (Refused r) out
+  pub refused-policy : {r : Refusal} {a : Result ℕ Refusal} → a ≡ check_answer policy → a ≡ Err r → Covered policy number out (Err r) out
   unfolding cover_refusal
   refused-policy {r} e t = refused_as (rw (check-refused policy r (sym t ∙ e)))
 
   module _ {n : ℕ} (is : Taken policy n) where
-    pub refused-number : n ≤ number → Covered policy number out (Refused (refusal no_such_rule 0)) out
+    pub refused-number : n ≤ number → Covered policy number out (Err NoSuchRule) out
     unfolding cover_refusal
     refused-number l = refused_as (rw (is.fine, le-ltb number (rule_count key_size policy) (omega (arith, is.counted))))
 
-    pub covered-list : {items : List ℕ} {count : ℕ} {r : CountAnswer} {out' : List ℕ} → number < n → Lists items count (cover_list policy number)
+    pub covered-list : {items : List ℕ} {count : ℕ} {r : Result ℕ Refusal} {out' : List ℕ} → number < n → Lists items count (cover_list policy number)
         → Answered (take count items) out r out' → Covered policy number out r out'
     unfolding cover_refusal
     covered-list low list a =

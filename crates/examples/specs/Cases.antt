@@ -1,18 +1,15 @@
 -- The small policy as bytes, and its cases (a) to (k): what the calls answer by their promises, and what is expected. Assumes nothing.
-use Rattle.std.specs.Prelude.{List, [], ◌∷◌, ◌++◌, ℕ, length}
+use Rattle.std.specs.Prelude.{List, [], ◌∷◌, ◌++◌, ℕ, length, Result, Ok}
 use Rattle.model.specs.Small.{row}
 use Rattle.buffers.specs.Parts.{splice}
-use Rattle.checks.specs.Refusals.{unless_refused, count_answer_of}
+use Rattle.checks.specs.Refusals.{unless_refused, answer_of}
 use Rattle.policy.specs.BestAnswers.{best_answer}
 use Rattle.policy.specs.declared.BestAnswer.{BestAnswer}
 use Rattle.policy.specs.declared.BestAnswer.TheVariants.{NoRule, Rule}
 use Rattle.lists.specs.Written.{number_bytes}
-use Rattle.checks.specs.declared.refusal.CountAnswer.{CountAnswer}
-use Rattle.checks.specs.declared.refusal.CountAnswer.TheVariants.{Count}
 use Rattle.cover.specs.Answers.{cover_refusal, cover_list}
 use Rattle.isolate.specs.Answers.{isolate_answer}
 use Rattle.isolate.specs.declared.IsolateAnswer.{IsolateAnswer}
-use Rattle.checks.specs.declared.refusal.Verdict.TheVariants.{Fine}
 
 -- a record of 32 bytes: the rows show positions 0 to 3, and priority and action are small
 unfoldable pub small_rule : ℕ → ℕ → ℕ → ℕ → List ℕ
@@ -28,7 +25,7 @@ small_bytes =
 -- an answer of a call, with the output that it leaves
 pub data Answer : Type 0 where
   best_is : BestAnswer → Answer
-  cover_is : CountAnswer → List ℕ → Answer
+  cover_is : Result ℕ Refusal → List ℕ → Answer
   isolate_is : IsolateAnswer → Answer
 
 -- what is computed, and what is expected
@@ -48,15 +45,15 @@ cover_case i n out =
     let refused = cover_refusal small_bytes i (length output) in
     let list = cover_list small_bytes i in
     record {
-      computed = cover_is (count_answer_of refused (length list)) (unless_refused refused output (splice 0 (number_bytes list) output));
-      expected = cover_is (Count n) out;
+      computed = cover_is (answer_of refused (length list)) (unless_refused refused output (splice 0 (number_bytes list) output));
+      expected = cover_is (Ok n) out;
     }
 
 unfoldable pub isolate_case : ℕ → ℕ → ℕ → ℕ → ℕ → ℕ → Case
 isolate_case i key value mask fixed wildcards =
     record {
       computed = isolate_is (isolate_answer small_bytes (row key) i);
-      expected = isolate_is (record { verdict = Fine; value = row value; mask = row mask; fixed = fixed; wildcards = wildcards });
+      expected = isolate_is (record { verdict = (Ok tt); value = row value; mask = row mask; fixed = fixed; wildcards = wildcards });
     }
 
 unfoldable pub small_cases : List Case

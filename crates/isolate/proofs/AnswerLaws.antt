@@ -2,18 +2,18 @@
 use mathlib.Core.Path.{◌≡◌, refl, sym, ap, ◌∙◌}
 use mathlib.Core.Bool.{true}
 use mathlib.Core.List.{List}
-use Rattle.std.specs.Prelude.{Option, None, Some}
+use Rattle.std.specs.Prelude.{Option, None, Some, Result, Ok, Err, ⊤}
 use mathlib.Core.Logic.{◌≢◌}
 use Prim.Native.Nat.{ℕ, ◌≤◌, ◌<◌}
 use lib.Dec.{ltb}
 use lib.ListN.{length}
 use borrow.Author.Tests.{lt-ltb, le-ltb, ltb-true, eqb-true, eq-eqb, ne_eqb}
 use Rattle.model.specs.Policy.{best}
-use Rattle.model.specs.Refusals.{ragged, no_such_rule, not_best}
+use Rattle.checks.specs.declared.refusal.Refusal.TheVariants.{NoSuchRule, NotBest, Ragged}
 use Rattle.model.proofs.Cases.{clash}
 use Rattle.ternary.specs.Sizes.{key_size, positions}
 use Rattle.records.specs.Rules.{rule_count, rules}
-use Rattle.checks.specs.Refusals.{refusal, verdict_of}
+use Rattle.checks.specs.Refusals.{verdict_of}
 use Rattle.checks.specs.declared.refusal.Refusal.{Refusal}
 use Rattle.checks.proofs.RefusalLaws.{none_first, need-none, key-accepted, verdict-refused, verdict-fine}
 use Rattle.checks.specs.Keys.{key_refusal}
@@ -25,44 +25,42 @@ use Rattle.policy.proofs.CheckLaws.{passed-few}
 use Rattle.policy.proofs.BestLaws.{found_none, found-rule}
 use Rattle.isolate.specs.Ready.{Ready}
 use Rattle.isolate.specs.Answers.{is_best, isolate_refusal}
-use Rattle.checks.specs.declared.refusal.Verdict.{Verdict}
-use Rattle.checks.specs.declared.refusal.Verdict.TheVariants.{Refused, Fine}
 
 -- ---- each way out
 
 module _ (policy key : List ℕ) (number : ℕ) where
-  abbrev says : Verdict → Type 0
+  abbrev says : Result ⊤ Refusal → Type 0
   says r = r ≡ verdict_of (isolate_refusal policy key number)
 
-  pub said-policy : (r : Refusal) → policy_refusal policy ≡ Some r → says (Refused r)
+  pub said-policy : (r : Refusal) → policy_refusal policy ≡ Some r → says (Err r)
   unfolding isolate_refusal
   said-policy r e = rw e
 
   module _ (fine : policy_refusal policy ≡ None) where
-    pub said-key : length key ≢ key_size → says (Refused (refusal ragged 0))
+    pub said-key : length key ≢ key_size → says (Err Ragged)
     unfolding isolate_refusal key_refusal
     said-key h = rw (fine, ne_eqb _ _ h)
 
     module _ (long : length key ≡ key_size) where
-      pub said-number : rule_count key_size policy ≤ number → says (Refused (refusal no_such_rule 0))
+      pub said-number : rule_count key_size policy ≤ number → says (Err NoSuchRule)
       unfolding isolate_refusal key_refusal
       said-number h = rw (fine, eq-eqb _ _ long, le-ltb _ _ h)
 
       -- the key's best rule, as it was found
       module _ (low : number < rule_count key_size policy) (b : BestFound) (e : b ≡ best_found policy key) where
-        pub said-none : b ≡ NoRule → says (Refused (refusal not_best 0))
+        pub said-none : b ≡ NoRule → says (Err NotBest)
         unfolding isolate_refusal key_refusal
         said-none t =
             let is : best positions (rules key_size policy) key ≡ None = found_none policy key (sym e ∙ t) in
             rw (fine, eq-eqb _ _ long, lt-ltb _ _ low, is)
 
-        pub said-other : (i a : ℕ) → b ≡ Found i a → i ≢ number → says (Refused (refusal not_best 0))
+        pub said-other : (i a : ℕ) → b ≡ Found i a → i ≢ number → says (Err NotBest)
         unfolding isolate_refusal key_refusal
         said-other i a t h =
             let is : best positions (rules key_size policy) key ≡ Some i = found-rule policy key i a (sym e ∙ t) in
             rw (fine, eq-eqb _ _ long, lt-ltb _ _ low, is, ne_eqb i number h)
 
-        pub said-isolated : (i a : ℕ) → b ≡ Found i a → i ≡ number → says Fine
+        pub said-isolated : (i a : ℕ) → b ≡ Found i a → i ≡ number → says (Ok tt)
         unfolding isolate_refusal key_refusal
         said-isolated i a t h =
             let is : best positions (rules key_size policy) key ≡ Some i = found-rule policy key i a (sym e ∙ t) in
@@ -78,20 +76,20 @@ pub policy-fine : (policy key : List ℕ) (number : ℕ) → isolate_refusal pol
 unfolding isolate_refusal
 policy-fine policy key number e = (none_first (policy_refusal policy) _ e).0
 
-module _ (policy key : List ℕ) (number : ℕ) (s : Verdict) (e : s ≡ verdict_of (isolate_refusal policy key number)) where
-  pub refused_as : (r : Refusal) → s ≡ Refused r → isolate_refusal policy key number ≡ Some r
+module _ (policy key : List ℕ) (number : ℕ) (s : Result ⊤ Refusal) (e : s ≡ verdict_of (isolate_refusal policy key number)) where
+  pub refused_as : (r : Refusal) → s ≡ Err r → isolate_refusal policy key number ≡ Some r
   refused_as r t = verdict-refused (isolate_refusal policy key number) e t
 
-  pub isolated-as : s ≡ Fine → isolate_refusal policy key number ≡ None
+  pub isolated-as : s ≡ (Ok tt) → isolate_refusal policy key number ≡ None
   isolated-as t = verdict-fine (isolate_refusal policy key number) e t
 
-  pub ready : s ≡ Fine → Ready policy key number
+  pub ready : s ≡ (Ok tt) → Ready policy key number
   unfolding isolate_refusal
   ready t =
       let p = none_first (policy_refusal policy) _ (isolated-as t) in
       let k = none_first (key_refusal key) _ p.1 in
-      let n = need-none (ltb number (rule_count key_size policy)) no_such_rule _ k.1 in
-      let b = need-none (is_best (best positions (rules key_size policy) key) number) not_best None n.1 in
+      let n = need-none (ltb number (rule_count key_size policy)) NoSuchRule _ k.1 in
+      let b = need-none (is_best (best positions (rules key_size policy) key) number) NotBest None n.1 in
       record {
         low = ltb-true _ _ n.0;
         few = passed-few policy p.0;

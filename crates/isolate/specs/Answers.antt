@@ -1,8 +1,8 @@
 -- What the call that isolates answers. Assumes nothing.
-use Rattle.std.specs.Prelude.{Bool, false, List, ℕ, ltb, eqb, replicate, Option, None, Some}
+use Rattle.std.specs.Prelude.{Bool, false, List, ℕ, ltb, eqb, replicate, Option, None, Some, Ok, Err}
 use Rattle.model.specs.Policy.{best}
 use Rattle.model.specs.Isolate.{Isolated as IsolatedRule, isolate}
-use Rattle.model.specs.Refusals.{no_such_rule, not_best}
+use Rattle.checks.specs.declared.refusal.Refusal.TheVariants.{NoSuchRule, NotBest}
 use Rattle.ternary.specs.Sizes.{key_size, positions}
 use Rattle.records.specs.Rules.{rule_count, rules}
 use Rattle.checks.specs.Refusals.{or_else, need}
@@ -10,7 +10,6 @@ use Rattle.checks.specs.declared.refusal.Refusal.{Refusal}
 use Rattle.checks.specs.Keys.{key_refusal}
 use Rattle.policy.specs.Refusals.{policy_refusal}
 use Rattle.isolate.specs.declared.IsolateAnswer.{IsolateAnswer}
-use Rattle.checks.specs.declared.refusal.Verdict.TheVariants.{Refused, Fine}
 
 -- the best rule, if there is one, is this one
 abbrev pub is_best : Option ℕ → ℕ → Bool
@@ -22,17 +21,17 @@ unfoldable pub isolate_refusal : List ℕ → List ℕ → ℕ → Option Refusa
 isolate_refusal policy key number =
     or_else (policy_refusal policy)
     (or_else (key_refusal key)
-    (need (ltb number (rule_count key_size policy)) no_such_rule
-    (need (is_best (best positions (rules key_size policy) key) number) not_best None)))
+    (need (ltb number (rule_count key_size policy)) NoSuchRule
+    (need (is_best (best positions (rules key_size policy) key) number) NotBest None)))
 
 -- a refusal: rows and counts are all 0
 abbrev pub refused_answer : Refusal → IsolateAnswer
 refused_answer r =
-    record { verdict = Refused r; value = replicate key_size 0; mask = replicate key_size 0; fixed = 0; wildcards = 0 }
+    record { verdict = Err r; value = replicate key_size 0; mask = replicate key_size 0; fixed = 0; wildcards = 0 }
 
 -- the isolated rule
 abbrev pub isolated_answer : IsolatedRule → IsolateAnswer
-isolated_answer x = record { verdict = Fine; value = x.value; mask = x.mask; fixed = x.fixed_bits; wildcards = x.wildcards_left }
+isolated_answer x = record { verdict = (Ok tt); value = x.value; mask = x.mask; fixed = x.fixed_bits; wildcards = x.wildcards_left }
 
 abbrev pub isolate_answer_of : Option Refusal → IsolatedRule → IsolateAnswer
 isolate_answer_of (Some r) x = refused_answer r

@@ -1,4 +1,5 @@
 -- The open slots: the loop that lists them, and each way out of the call. Assumes nothing.
+use Rattle.std.specs.Prelude.{Result, Err}
 use mathlib.Core.Path.{◌≡◌, sym, ◌∙◌}
 use mathlib.Core.Bool.{Bool, true, false}
 use mathlib.Core.List.{List}
@@ -10,11 +11,10 @@ use lib.ListN.{length, take, set, length-set}
 use lib.Seq.{take-suc-set}
 use Rattle.ends.specs.Records.{slot_at}
 use Rattle.ends.specs.Ends.{is_open, open_list}
-use Rattle.model.specs.Refusals.{bad_slots}
+use Rattle.checks.specs.declared.refusal.Refusal.TheVariants.{BadSlots}
 use Rattle.model.proofs.OrderLaws.{list-more}
 use Rattle.ternary.specs.Sizes.{key_size}
 use Rattle.records.specs.Layout.{most_rules, most_slots}
-use Rattle.checks.specs.Refusals.{refusal}
 use Rattle.end_records.specs.Slots.{slots}
 use Rattle.records.specs.SlotBuffers.{slot_count}
 use Rattle.checks.specs.BufferRefusals.{slots_fit, slots_refusal}
@@ -22,8 +22,6 @@ use Rattle.end_records.proofs.SlotLaws.{slot-count}
 use Rattle.checks.proofs.FitLaws.{fit-whole}
 use Rattle.lists.specs.Numbers.{Lists}
 use Rattle.lists.specs.Answers.{Answered}
-use Rattle.checks.specs.declared.refusal.CountAnswer.{CountAnswer}
-use Rattle.checks.specs.declared.refusal.CountAnswer.TheVariants.{Refused}
 use Rattle.lists.proofs.GatherLaws.{lists-few, Gathered, gathered_none, gathered-few, gathered-passed, gathered-all}
 use Rattle.lists.proofs.AnswerLaws.{answered-as}
 use Rattle.keeper.specs.Opens.{open_in, open_refusal, Opened}
@@ -85,11 +83,11 @@ pub few-slots : (keeper : List ℕ) {b : Bool} → b ≡ slots_fit keeper → b 
 few-slots keeper e t = (fit-whole keeper (sym e ∙ t)).few-there
 
 module _ (keeper out : List ℕ) {b : Bool} (e : b ≡ slots_fit keeper) where
-  pub refused-slots : b ≡ false → Opened keeper out (Refused (refusal bad_slots 0)) out
+  pub refused-slots : b ≡ false → Opened keeper out (Err BadSlots) out
   unfolding open_refusal slots_refusal
   refused-slots t = record { answer = rw (sym e ∙ t); out-after = rw (sym e ∙ t) }
 
-  pub opened-list : {items : List ℕ} {count : ℕ} {r : CountAnswer} {out' : List ℕ} → b ≡ true → Lists items count (open_in keeper)
+  pub opened-list : {items : List ℕ} {count : ℕ} {r : Result ℕ Refusal} {out' : List ℕ} → b ≡ true → Lists items count (open_in keeper)
       → Answered (take count items) out r out' → Opened keeper out r out'
   unfolding open_refusal slots_refusal
   opened-list t list a =

@@ -3,7 +3,7 @@ use mathlib.Core.Path.{◌≡◌, refl}
 use mathlib.Core.Bool.{false, not}
 use mathlib.Core.List.{List}
 use mathlib.Core.Logic.{◌≢◌}
-use Rattle.std.specs.Prelude.{Option, None, Some}
+use Rattle.std.specs.Prelude.{Option, None, Some, Result, Ok, Err, ⊤}
 use Prim.Native.Nat.{ℕ, ◌≤◌, ◌<◌}
 use native.Mathlib.Omega.{arith}
 use lib.Dec.{leb, eqb}
@@ -12,7 +12,7 @@ use borrow.Author.Tests.{eqb-true, eq-eqb, ne_eqb, le-leb, lt-leb, lt-ltb, le-lt
 use Rattle.ends.specs.Records.{Slot, Report, slot_at}
 use Rattle.ends.specs.Ends.{report_refusal}
 use Rattle.ends.proofs.Refusals.{report-there}
-use Rattle.model.specs.Refusals.{ragged, wrong_kind, bad_record, no_such_slot, sequence_zero, report_ahead}
+use Rattle.checks.specs.declared.refusal.Refusal.TheVariants.{BadRecord, NoSuchSlot, Ragged, ReportAhead, SequenceZero, WrongKind}
 use Rattle.ternary.specs.Sizes.{key_size}
 use Rattle.records.specs.Layout.{report_kind, report_zero, report_size, is_report}
 use Rattle.checks.specs.Refusals.{need, verdict_of}
@@ -28,8 +28,6 @@ use Rattle.end_records.specs.Reports.{decode_report}
 use Rattle.checks.proofs.RefusalLaws.{none_first, need-none, verdict-refused, verdict-fine}
 use Rattle.slots.specs.Settle.{ReportTaken}
 use Rattle.keeper.specs.Reports.{numbered, bytes_refusal, report_refused, report_answer, Reported}
-use Rattle.checks.specs.declared.refusal.Verdict.{Verdict}
-use Rattle.checks.specs.declared.refusal.Verdict.TheVariants.{Refused, Fine}
 
 -- ---- what an answer says of the tests
 
@@ -41,8 +39,8 @@ not-refused (Some n) e = let z : ◌≡◌ {A = ℕ} 0 1 = cc in absurd (omega a
 pub bytes-long : (message : List ℕ) → bytes_refusal message ≡ None → length message ≡ report_size
 unfolding bytes_refusal
 bytes-long message e =
-    eqb-true _ _ (need-none (eqb (length message) report_size) ragged
-    (need (eqb (get_or message report_kind 0) is_report) wrong_kind (need (not (is_flawed (report_flaw message))) bad_record None)) e).0
+    eqb-true _ _ (need-none (eqb (length message) report_size) Ragged
+    (need (eqb (get_or message report_kind 0) is_report) WrongKind (need (not (is_flawed (report_flaw message))) (BadRecord 0) None)) e).0
 
 -- ---- the report against the slots: 9, 10, 11
 
@@ -51,10 +49,10 @@ module _ (keeper : List ℕ) (x : Report) where
   k = slots key_size keeper
 
   -- what was told of the report against the slots, in the words of the model's refusal
-  abbrev Told : Verdict → Option ℕ → Type 0
+  abbrev Told : Result ⊤ Refusal → Option ℕ → Type 0
   Told r o = r ≡ verdict_of (numbered o) → r ≡ verdict_of (numbered (report_refusal k x))
 
-  pub no_slot : {r : Verdict} {i : ℕ} → i ≡ x.slot → slot_count key_size keeper ≤ i → Told r (Some no_such_slot)
+  pub no_slot : {r : Result ⊤ Refusal} {i : ℕ} → i ≡ x.slot → slot_count key_size keeper ≤ i → Told r (Some NoSuchSlot)
   unfolding report_refusal
   no_slot e l t = rw (le-leb (length k) x.slot (omega (arith, slot-count key_size keeper))) t
 
@@ -62,16 +60,16 @@ module _ (keeper : List ℕ) (x : Report) where
     inside : leb (length k) x.slot ≡ false
     inside = lt-leb (length k) x.slot (omega (arith, slot-count key_size keeper))
 
-    pub no-sequence : {r : Verdict} → x.sequence ≡ 0 → Told r (Some sequence_zero)
+    pub no-sequence : {r : Result ⊤ Refusal} → x.sequence ≡ 0 → Told r (Some SequenceZero)
     unfolding report_refusal
     no-sequence z t = rw (inside, eq-eqb x.sequence 0 z) t
 
     module _ {last : ℕ} (is : last ≡ (slot_at k i).sequence) where
-      pub too-new : {r : Verdict} → x.sequence ≢ 0 → last < x.sequence → Told r (Some report_ahead)
+      pub too-new : {r : Result ⊤ Refusal} → x.sequence ≢ 0 → last < x.sequence → Told r (Some ReportAhead)
       unfolding report_refusal
       too-new n m t = rw (inside, ne_eqb x.sequence 0 n, ← e, ← is, lt-ltb last x.sequence m) t
 
-      pub in-time : {r : Verdict} → x.sequence ≢ 0 → x.sequence ≤ last → Told r None
+      pub in-time : {r : Result ⊤ Refusal} → x.sequence ≢ 0 → x.sequence ≤ last → Told r None
       unfolding report_refusal
       in-time n m t = rw (inside, ne_eqb x.sequence 0 n, ← e, ← is, le-ltb last x.sequence m) t
 
@@ -84,7 +82,7 @@ module _ (keeper message : List ℕ) where
     pub long : length message ≡ report_size
     pub inside : (decode_report message).slot < slot_count key_size keeper
 
-  pub accepted-of : {a : Verdict} → a ≡ report_answer keeper message → a ≡ Fine → Accepted
+  pub accepted-of : {a : Result ⊤ Refusal} → a ≡ report_answer keeper message → a ≡ (Ok tt) → Accepted
   unfolding report_answer report_refused
   accepted-of e t =
       let fine = verdict-fine (report_refused keeper message) e t in
@@ -96,15 +94,15 @@ module _ (keeper message : List ℕ) where
         inside = omega (arith, slot-count key_size keeper, report-there _ _ (not-refused _ parts.1));
       }
 
-  pub reported-refused : {a : Verdict} {r : Refusal} → a ≡ report_answer keeper message → a ≡ Refused r
-      → Reported keeper message (Refused r) keeper
+  pub reported-refused : {a : Result ⊤ Refusal} {r : Refusal} → a ≡ report_answer keeper message → a ≡ Err r
+      → Reported keeper message (Err r) keeper
   unfolding report_answer
   reported-refused e t =
       let refused = verdict-refused (report_refused keeper message) e t in
       record { answer = rw refused; keeper-after = rw refused; meaning = rw refused }
 
   pub reported-taken : {x : Report} {keeper' : List ℕ} → Accepted → x ≡ decode_report message → ReportTaken keeper x keeper'
-      → Reported keeper message Fine keeper'
+      → Reported keeper message (Ok tt) keeper'
   unfolding report_answer
   reported-taken is e h =
       record { answer = rw is.fine; keeper-after = rw (is.fine, ← e) h.keeper-after; meaning = rw (is.fine, ← e) h.meaning }

@@ -2,7 +2,7 @@
 use mathlib.Core.Path.{◌≡◌, ap, ◌∙◌}
 use mathlib.Core.Bool.{true, false}
 use mathlib.Core.List.{List}
-use Rattle.std.specs.Prelude.{Option, None, Some}
+use Rattle.std.specs.Prelude.{Option, None, Some, Result, Ok, Err, ⊤}
 use Prim.Native.Nat.{ℕ}
 use lib.ListN.{length, set}
 use Rattle.ends.specs.Records.{Slot, Write, Outcome, written, entry_in, write_for, entry_at}
@@ -11,8 +11,6 @@ use Rattle.ternary.specs.Sizes.{key_size}
 use Rattle.buffers.specs.Parts.{splice}
 use Rattle.checks.specs.Refusals.{unless_refused, verdict_of}
 use Rattle.checks.specs.declared.refusal.Refusal.{Refusal}
-use Rattle.checks.specs.declared.refusal.Verdict.{Verdict}
-use Rattle.checks.specs.declared.refusal.Verdict.TheVariants.{Refused as PartRefused, Fine as PartsFine}
 use Rattle.checks.proofs.RefusalLaws.{verdict-refused, verdict-fine}
 use Rattle.end_records.specs.Slots.{slots, put_slot}
 use Rattle.end_records.specs.Writes.{encode_write}
@@ -34,14 +32,14 @@ use Rattle.miss.specs.declared.decision.Decision.{Decision}
 -- ---- the parts that are lent
 
 module _ (policy key keeper : List ℕ) where
-  pub missed-refused : (out : List ℕ) {r : Refusal} {a : Verdict} → a ≡ verdict_of (lent_refusal policy key keeper) → a ≡ PartRefused r
+  pub missed-refused : (out : List ℕ) {r : Refusal} {a : Result ⊤ Refusal} → a ≡ verdict_of (lent_refusal policy key keeper) → a ≡ Err r
       → Missed policy key keeper out (Refused r) keeper out
   unfolding miss_refused
   missed-refused out e t =
       let refused = verdict-refused (lent_refusal policy key keeper) e t in
       record { answer = rw refused; keeper-after = rw refused; meaning = rw refused; out-after = rw refused }
 
-  pub fine_of : {a : Verdict} → a ≡ verdict_of (lent_refusal policy key keeper) → a ≡ PartsFine → FineMiss policy key keeper
+  pub fine_of : {a : Result ⊤ Refusal} → a ≡ verdict_of (lent_refusal policy key keeper) → a ≡ (Ok tt) → FineMiss policy key keeper
   fine_of e t =
       let fine = parts-fine policy key keeper (verdict-fine (lent_refusal policy key keeper) e t) in
       record { few = passed-few policy fine.accepted; long = fine.long; whole = fine.whole }
@@ -127,7 +125,7 @@ module _ (policy keeper out : List ℕ) {d : Decision} {r : MissAnswer} {keeper'
       record { answer = answer-quiet g is.outcome; keeper-after = bytes-quiet g; meaning = slots-quiet g; out-after = out-quiet g }
 
 -- a call whose parts are fine is the call without its checks
-pub missed : (policy key keeper out : List ℕ) {a : Verdict} {r : MissAnswer} {keeper' out' : List ℕ} → a ≡ verdict_of (lent_refusal policy key keeper)
-    → a ≡ PartsFine → OnMiss policy key keeper out r keeper' out' → Missed policy key keeper out r keeper' out'
+pub missed : (policy key keeper out : List ℕ) {a : Result ⊤ Refusal} {r : MissAnswer} {keeper' out' : List ℕ} → a ≡ verdict_of (lent_refusal policy key keeper)
+    → a ≡ (Ok tt) → OnMiss policy key keeper out r keeper' out' → Missed policy key keeper out r keeper' out'
 unfolding miss_refused
 missed policy key keeper out e t is = rw (verdict-fine (lent_refusal policy key keeper) e t) is

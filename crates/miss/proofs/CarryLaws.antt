@@ -8,11 +8,10 @@ use lib.Dec.{ltb}
 use lib.ListN.{length}
 use borrow.Author.Tests.{lt-ltb, le-ltb}
 use Rattle.ends.specs.Records.{Slot, Write}
-use Rattle.model.specs.Refusals.{short_output}
+use Rattle.checks.specs.declared.refusal.Refusal.TheVariants.{ShortOutput}
 use Rattle.ternary.specs.Sizes.{key_size}
 use Rattle.buffers.specs.Parts.{splice}
 use Rattle.records.specs.Layout.{write_size}
-use Rattle.checks.specs.Refusals.{refusal}
 use Rattle.end_records.specs.Writes.{encode_write}
 use Rattle.end_records.specs.MessageStructs.{as_write}
 use Rattle.records.specs.Outcomes.{gives_write, gives_new_entry}
@@ -50,7 +49,7 @@ module _ (d : Decision) (keeper out : List ℕ) where
       }
 
   module _ {b : Bool} (e : b ≡ gives_write o) (t : b ≡ true) where
-    pub carried-short : length out < write_size key_size → CarriedOut d keeper out (Refused (refusal short_output 0)) keeper out
+    pub carried-short : length out < write_size key_size → CarriedOut d keeper out (Refused ShortOutput) keeper out
     carried-short l =
         let s : ltb (length out) (write_size key_size) ≡ true = lt-ltb (length out) (write_size key_size) l in
         record { answer = rw (sym e ∙ t, s); keeper-after = rw (sym e ∙ t, s); meaning = rw (sym e ∙ t, s); out-after = rw (sym e ∙ t, s) }

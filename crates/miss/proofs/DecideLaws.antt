@@ -2,7 +2,7 @@
 use mathlib.Core.Path.{◌≡◌, sym, ap, ◌∙◌}
 use mathlib.Core.List.{List}
 use mathlib.Core.Logic.{◌≢◌}
-use Rattle.std.specs.Prelude.{None, Some}
+use Rattle.std.specs.Prelude.{None, Some, Option}
 use Prim.Native.Nat.{ℕ, suc, ◌<◌}
 use native.Mathlib.Omega.{arith}
 use borrow.Author.Tests.{eq-eqb, ne_eqb}
@@ -16,9 +16,6 @@ use Rattle.ternary.specs.Sizes.{key_size, positions}
 use Rattle.records.specs.Rules.{rules}
 use Rattle.end_records.specs.Slots.{slots}
 use Rattle.records.specs.SlotBuffers.{slot_count, WholeSlots}
-use Rattle.slots.specs.Find.{slot_found_of}
-use Rattle.slots.specs.declared.find.SlotFound.{SlotFound}
-use Rattle.slots.specs.declared.find.SlotFound.TheVariants.{Nowhere, At}
 use Rattle.end_records.proofs.SlotLaws.{slot-count}
 use Rattle.slots.proofs.FindLaws.{found_nowhere, found_at, held_below}
 use Rattle.end_records.specs.MessageStructs.{as_write}
@@ -60,14 +57,14 @@ module _ (policy key keeper : List ℕ) where
       → DecidedAs policy keeper (miss_with policy key keeper (Some number) None) d
   not-used-up e n is = rw (ne_eqb (largest ks) last_sequence (λ t. n (e ∙ t))) is
 
-  pub held : (number : ℕ) {i : ℕ} {h : SlotFound} {d : Decision} → h ≡ slot_found_of (first_for positions ks key) → h ≡ At i
+  pub held : (number : ℕ) {i : ℕ} {h : Option ℕ} {d : Decision} → h ≡ (first_for positions ks key) → h ≡ Some i
       → DecidedAs policy keeper (again i) d → DecidedAs policy keeper (rule_miss policy key keeper number) d
   held number {i} e t is = rw (found_at (first_for positions ks key) i (sym t ∙ e)) is
 
-  pub held-inside : {i : ℕ} {h : SlotFound} → h ≡ slot_found_of (first_for positions ks key) → h ≡ At i → i < slot_count key_size keeper
+  pub held-inside : {i : ℕ} {h : Option ℕ} → h ≡ (first_for positions ks key) → h ≡ Some i → i < slot_count key_size keeper
   held-inside {i} e t = held_below keeper key i (found_at (first_for positions ks key) i (sym t ∙ e))
 
-  pub not-held : (number : ℕ) {h : SlotFound} {d : Decision} → h ≡ slot_found_of (first_for positions ks key) → h ≡ Nowhere
+  pub not-held : (number : ℕ) {h : Option ℕ} {d : Decision} → h ≡ (first_for positions ks key) → h ≡ None
       → DecidedAs policy keeper (miss_with policy key keeper (Some number) None) d → DecidedAs policy keeper (rule_miss policy key keeper number) d
   not-held number e t is = rw (found_nowhere (first_for positions ks key) (sym t ∙ e)) is
 

@@ -3,7 +3,7 @@ use Rattle.std.specs.Prelude.{◌≡◌, not, List, ℕ, ltb, length, Option, No
 use Rattle.ends.specs.Records.{Write, written}
 use Rattle.ends.specs.Ends.{Miss, no_rule, again, new_entry, used_up, miss_keeper, miss_write}
 use Rattle.ends.specs.Trace.{miss_outcome}
-use Rattle.model.specs.Refusals.{short_output}
+use Rattle.checks.specs.declared.refusal.Refusal.TheVariants.{ShortOutput}
 use Rattle.ternary.specs.Sizes.{key_size}
 use Rattle.buffers.specs.Parts.{splice}
 use Rattle.records.specs.Layout.{write_size}
@@ -22,7 +22,7 @@ use Rattle.miss.specs.declared.carry.MissAnswer.{MissAnswer}
 -- 5, where a write is given and the output has out_len bytes
 abbrev pub short_for_write : Option Write → ℕ → Option Refusal
 short_for_write None out_len = None
-short_for_write (Some w) out_len = need (not (ltb out_len (write_size key_size))) short_output None
+short_for_write (Some w) out_len = need (not (ltb out_len (write_size key_size))) ShortOutput None
 
 -- policy 1, 2, 3; key 1; keeper 4; 5
 unfoldable pub miss_refused : List ℕ → List ℕ → List ℕ → ℕ → Option Refusal

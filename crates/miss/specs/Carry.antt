@@ -1,7 +1,7 @@
 -- A decision on a miss, carried out, in its own values. Assumes nothing.
 use Rattle.std.specs.Prelude.{◌≡◌, not, cond, ◌&&◌, List, ℕ, ltb, length, set, Option, None, Some}
 use Rattle.ends.specs.Records.{Write, Outcome, written, entry_in}
-use Rattle.model.specs.Refusals.{short_output}
+use Rattle.checks.specs.declared.refusal.Refusal.TheVariants.{ShortOutput}
 use Rattle.ternary.specs.Sizes.{key_size}
 use Rattle.buffers.specs.Parts.{splice}
 use Rattle.records.specs.Layout.{write_size}
@@ -26,7 +26,7 @@ miss_answer_of None x = Told (as_struct x)
 
 -- where the decision gives a write and the output is too short for it
 abbrev pub short_refusal : ℕ → ℕ → Option Refusal
-short_refusal outcome out_len = need (not (gives_write outcome && ltb out_len (write_size key_size))) short_output None
+short_refusal outcome out_len = need (not (gives_write outcome && ltb out_len (write_size key_size))) ShortOutput None
 
 -- the entry of the write goes into its slot, where one is placed
 pub record NewEntryPut (outcome : ℕ) (w : Write) (keeper keeper' : List ℕ) : Type 0 where

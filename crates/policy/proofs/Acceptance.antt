@@ -1,7 +1,7 @@
 -- A policy is not refused where its bytes are those of an accepted policy, and in no other case. Assumes nothing.
 use mathlib.Core.Path.{◌≡◌, refl, sym, ◌∙◌}
 use mathlib.Core.List.{List}
-use Rattle.std.specs.Prelude.{None}
+use Rattle.std.specs.Prelude.{Option, None, Some}
 use mathlib.Core.Logic.{◌↔◌}
 use Prim.Native.Nat.{ℕ, ◌*◌, ◌%◌, ◌≤◌, ◌<◌}
 use native.Mathlib.Omega.{arith}
@@ -16,24 +16,23 @@ use Rattle.buffers.proofs.PartLaws.{part_length}
 use Rattle.records.specs.Layout.{rule_value, rule_mask, rule_size, most_rules}
 use Rattle.records.specs.Rules.{decode_rule, rule_count, rules}
 use Rattle.records.proofs.RuleLaws.{rule-count, rule-at}
-use Rattle.checks.specs.declared.flaw.Flaw.TheVariants.{Clean}
+use Rattle.checks.specs.Flaws.{rule_flaw}
+use Rattle.checks.specs.declared.flawed.Flawed.{Flawed}
 use Rattle.checks.proofs.CleanLaws.{rule-clean}
 use Rattle.checks.proofs.RefusalLaws.{need-none}
-use Rattle.checks.specs.Flawed.{rule_flaw_at, flaw_refusal}
-use Rattle.checks.specs.declared.flawed.FirstFlaw.{FirstFlaw}
-use Rattle.checks.specs.declared.flawed.FirstFlaw.TheVariants.{AllClean, Flawed}
+use Rattle.checks.specs.Flawed.{flaw_at, flaw_refusal}
 use Rattle.checks.proofs.FlawedLaws.{all-clean}
 use Rattle.policy.specs.Refusals.{policy_refusal, AcceptedBytes}
 
-flaw-none : (x : FirstFlaw) → flaw_refusal x ≡ None → x ≡ AllClean
-flaw-none AllClean e = refl
-flaw-none (Flawed i flaw) e = let z : ◌≡◌ {A = ℕ} 0 1 = cc in absurd (omega arith)
+flaw-none : (x : Option Flawed) → flaw_refusal x ≡ None → x ≡ None
+flaw-none None e = refl
+flaw-none (Some flawed) e = let z : ◌≡◌ {A = ℕ} 0 1 = cc in absurd (omega arith)
 
 -- the three tests pass
 pub record Passes (bs : List ℕ) : Type 0 where
   pub whole : length bs % rule_size key_size ≡ 0
   pub few : rule_count key_size bs ≤ most_rules
-  pub flawless : (i : ℕ) → i < rule_count key_size bs → rule_flaw_at key_size bs i ≡ Clean
+  pub flawless : (i : ℕ) → i < rule_count key_size bs → rule_flaw key_size (chunk (rule_size key_size) bs i) ≡ None
 
 pub refused-not : (bs : List ℕ) → policy_refusal bs ≡ None → Passes bs
 unfolding policy_refusal
@@ -43,7 +42,7 @@ refused-not bs e =
     record {
       whole = eqb-true _ _ a.0;
       few = ltb-false _ _ (not-true b.0);
-      flawless = (all-clean (rule_flaw_at key_size bs) (rule_count key_size bs)).0 (flaw-none _ b.1);
+      flawless = (all-clean (flaw_at (rule_flaw key_size) (rule_size key_size) bs) (rule_count key_size bs)).0 (flaw-none _ b.1);
     }
 
 not-refused : (bs : List ℕ) → Passes bs → policy_refusal bs ≡ None
@@ -52,7 +51,7 @@ not-refused bs p =
     rw (
       eq-eqb _ _ p.whole,
       le-ltb _ _ p.few,
-      (all-clean (rule_flaw_at key_size bs) (rule_count key_size bs)).1 p.flawless,
+      (all-clean (flaw_at (rule_flaw key_size) (rule_size key_size) bs) (rule_count key_size bs)).1 p.flawless,
     )
 
 -- rule i of the policy, and its rows

@@ -3,40 +3,37 @@ use mathlib.Core.Path.{◌≡◌, sym, ◌∙◌}
 use mathlib.Core.Bool.{Bool, true, false}
 use mathlib.Core.List.{List}
 use mathlib.Core.Logic.{◌≢◌}
-use Rattle.std.specs.Prelude.{None, Some}
+use Rattle.std.specs.Prelude.{None, Some, Result, Ok, Err}
 use Prim.Native.Nat.{ℕ}
 use lib.ListN.{length}
 use borrow.Author.Tests.{eq-eqb, ne_eqb}
-use Rattle.model.specs.Refusals.{ragged, bad_slots}
+use Rattle.checks.specs.declared.refusal.Refusal.TheVariants.{BadSlots, Ragged}
 use Rattle.ternary.specs.Sizes.{key_size}
 use Rattle.checks.specs.Keys.{key_refusal}
-use Rattle.checks.specs.Refusals.{refusal}
 use Rattle.checks.specs.declared.refusal.Refusal.{Refusal}
 use Rattle.checks.proofs.RefusalLaws.{none_first, key-accepted}
 use Rattle.checks.specs.BufferRefusals.{slots_fit, slots_refusal}
 use Rattle.checks.proofs.FitLaws.{slots-accepted}
 use Rattle.policy.specs.Refusals.{policy_refusal}
 use Rattle.policy.specs.Answers.{check_answer, best_refusal}
-use Rattle.checks.specs.declared.refusal.CountAnswer.{CountAnswer}
-use Rattle.checks.specs.declared.refusal.CountAnswer.TheVariants.{Refused, Count}
 use Rattle.policy.proofs.CheckLaws.{check-refused, check-passed}
 use Rattle.policy.specs.Lent.{lent_refusal, FineLent}
 
 module _ (policy key end : List ℕ) where
-  pub bad-policy : {a : CountAnswer} {r : Refusal} → a ≡ check_answer policy → a ≡ Refused r → lent_refusal policy key end ≡ Some r
+  pub bad-policy : {a : Result ℕ Refusal} {r : Refusal} → a ≡ check_answer policy → a ≡ Err r → lent_refusal policy key end ≡ Some r
   unfolding lent_refusal best_refusal
   bad-policy {a} {r} e t = rw (check-refused policy r (sym t ∙ e))
 
-  module _ {a : CountAnswer} {n : ℕ} (e : a ≡ check_answer policy) (t : a ≡ Count n) where
+  module _ {a : Result ℕ Refusal} {n : ℕ} (e : a ≡ check_answer policy) (t : a ≡ Ok n) where
     passed : policy_refusal policy ≡ None
     passed = check-passed policy n (sym t ∙ e)
 
-    pub bad-key : length key ≢ key_size → lent_refusal policy key end ≡ Some (refusal ragged 0)
+    pub bad-key : length key ≢ key_size → lent_refusal policy key end ≡ Some Ragged
     unfolding lent_refusal best_refusal key_refusal
     bad-key k = rw (passed, ne_eqb (length key) key_size k)
 
     module _ {b : Bool} (k : length key ≡ key_size) (f : b ≡ slots_fit end) where
-      pub bad-end : b ≡ false → lent_refusal policy key end ≡ Some (refusal bad_slots 0)
+      pub bad-end : b ≡ false → lent_refusal policy key end ≡ Some BadSlots
       unfolding lent_refusal best_refusal key_refusal slots_refusal
       bad-end x = rw (passed, eq-eqb (length key) key_size k, sym f ∙ x)
 

@@ -6,4 +6,5 @@ pub mod RecordShown
 -- What the tests of the parts say.
 pub mod LentLaws
 -- Laws of the best rule, for its callers.
+pub mod SearchLaws
 pub mod BestLaws

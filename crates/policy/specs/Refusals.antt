@@ -5,13 +5,13 @@ use Rattle.ternary.specs.Sizes.{key_size}
 use Rattle.buffers.specs.Parts.{chunk}
 use Rattle.records.specs.Layout.{rule_size, most_rules}
 use Rattle.records.specs.Rules.{rule_count, rules}
-use Rattle.checks.specs.Flaws.{Zeros, rule_spares}
+use Rattle.checks.specs.Flaws.{Zeros, rule_spares, rule_flaw}
 use Rattle.checks.specs.declared.refusal.Refusal.{Refusal}
-use Rattle.checks.specs.Flawed.{rule_flaw_at, records_refusal}
+use Rattle.checks.specs.Flawed.{records_refusal}
 
 -- policy 1, 2, 3
 unfoldable pub policy_refusal : List ℕ → Option Refusal
-policy_refusal bs = records_refusal (rule_size key_size) most_rules (rule_flaw_at key_size bs) bs
+policy_refusal bs = records_refusal (rule_size key_size) most_rules (rule_flaw key_size) bs
 
 -- what the bytes of a policy that is not refused are: whole records, an accepted policy, zero bytes zero
 pub record AcceptedBytes (bs : List ℕ) : Type 0 where

@@ -3,22 +3,19 @@ ghost use Rattle.std.specs.Prelude.{◌≡◌};
 ghost use Rattle.checks.specs.Refusals.{verdict_of};
 ghost use Rattle.policy.specs.Lent.{lent_refusal};
 
-use checks::refusal;
-use checks::refusal::{CountAnswer, Verdict};
+use checks::refusal::Refusal;
 use records::layout;
 
 // Refusals 1, 2 and 3 of the policy, 1 of the key, 4 of the end.
-pub fn check_lent(policy: &[u8], key: &[u8], end: &[u8]) -> Verdict
+pub fn check_lent(policy: &[u8], key: &[u8], end: &[u8]) -> Result<(), Refusal>
     ensures { result ≡ verdict_of (lent_refusal policy.now key.now end.now) }
 {
-    if let CountAnswer::Refused(refusal) = crate::check(policy) {
-        return Verdict::Refused(refusal);
-    }
+    crate::check(policy)?;
     if key.len() != layout::KEY_SIZE {
-        return refusal::refused(refusal::RAGGED);
+        return Err(Refusal::Ragged);
     }
     if !checks::buffer::slots_fit(end) {
-        return refusal::refused(refusal::BAD_SLOTS);
+        return Err(Refusal::BadSlots);
     }
-    Verdict::Fine
+    Ok(())
 }

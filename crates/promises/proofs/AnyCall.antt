@@ -1,7 +1,7 @@
 -- No call is shut out from the sequences: with any arguments that are bytes it has an answer as its function promises. Assumes nothing.
 use mathlib.Core.Path.{◌≡◌, refl}
 use mathlib.Core.List.{List}
-use Rattle.std.specs.Prelude.{Option, None, Some}
+use Rattle.std.specs.Prelude.{Option, None, Some, Ok, Err}
 use Prim.Native.Nat.{ℕ, ◌<◌}
 use native.Mathlib.Omega.{arith}
 use lib.ListN.{length, set}
@@ -40,7 +40,6 @@ use Rattle.totals.specs.declared.Totals.{Totals as TotalsStruct}
 use Rattle.run.specs.Send.{ends_in}
 use Rattle.run.specs.Refusals.{run_refusal}
 use Rattle.run.specs.Runs.{outcomes_of, ends_of, run_of, RunIs}
-use Rattle.checks.specs.declared.refusal.CountAnswer.TheVariants.{Refused, Count}
 use Rattle.run.specs.declared.Ran.{Ran}
 use Rattle.promises.specs.Calls.{State}
 use Rattle.promises.specs.AnyCall.{AnyCall}
@@ -110,7 +109,7 @@ module _ {count : ℕ} {s : State} (f : Formed count s) where
         × RunIs policy trace s.table s.keeper out t r table' keeper' out'
     unfolding run_of run_refusal
     run-answered (Some x) e = (
-      record { answer = Refused x; totals = totals_struct t },
+      record { answer = Err x; totals = totals_struct t },
       s.table,
       s.keeper,
       out,
@@ -118,7 +117,7 @@ module _ {count : ℕ} {s : State} (f : Formed count s) where
     )
     run-answered None e = (
       record {
-        answer = Count (packet_count key_size trace);
+        answer = Ok (packet_count key_size trace);
         totals = totals_struct (totals_after t (outcomes_of policy trace s.table s.keeper));
       },
       spelled encode_slot ends.table,

@@ -2,7 +2,7 @@
 use mathlib.Core.Path.{◌≡◌, refl, sym, ◌∙◌}
 use mathlib.Core.Bool.{not}
 use mathlib.Core.List.{List, Memᴰ}
-use Rattle.std.specs.Prelude.{Option, None, Some}
+use Rattle.std.specs.Prelude.{Option, None, Some, Result, ⊤}
 use Prim.Native.Nat.{ℕ, ◌≤◌, ◌<◌}
 use native.Mathlib.Omega.{arith}
 use lib.Dec.{ltb}
@@ -11,7 +11,7 @@ use borrow.Author.Tests.{ltb-false}
 use Rattle.model.specs.Bits.{Bytes}
 use Rattle.ends.specs.Records.{Slot, Report, written, slot_at, entry_at, write_for}
 use Rattle.ends.specs.Ends.{PolicyView, Miss, no_rule, again, new_entry, used_up, is_empty, miss_write, is_current, confirmed, report_refusal}
-use Rattle.model.specs.Refusals.{short_output}
+use Rattle.checks.specs.declared.refusal.Refusal.TheVariants.{ShortOutput}
 use Rattle.ends.specs.World.{miss as miss_event, report_arrives, step}
 use Rattle.ends.specs.Trace.{miss_outcome}
 use Rattle.model.proofs.Cases.{by_cases, cond-elim, not-true}
@@ -30,7 +30,6 @@ use Rattle.end_records.specs.Reports.{decode_report}
 use Rattle.policy.specs.Refusals.{AcceptedBytes}
 use Rattle.slots.specs.Settle.{report_bytes}
 use Rattle.keeper.specs.Reports.{report_refused, report_answer, Reported}
-use Rattle.checks.specs.declared.refusal.Verdict.{Verdict}
 use Rattle.keeper.proofs.ReportLaws.{not-refused, accepted-of, report-meaning}
 use Rattle.records.specs.Outcomes.{gives_write}
 use Rattle.miss.specs.Decision.{policy_view}
@@ -48,7 +47,7 @@ use Rattle.promises.proofs.Meaning.{meaning, same-world, Formed, Replaced, Stepp
 use Rattle.promises.proofs.Meaning.{keeper-formed}
 
 -- room for a write
-long-enough : (room : ℕ) → need (not (ltb room (write_size key_size))) short_output None ≡ None → write_size key_size ≤ room
+long-enough : (room : ℕ) → need (not (ltb room (write_size key_size))) ShortOutput None ≡ None → write_size key_size ≤ room
 long-enough room e = ltb-false room (write_size key_size) (not-true (need-none _ _ None e).0)
 
 module _ {count : ℕ} {s : State} (f : Formed count s) where
@@ -138,7 +137,7 @@ module _ {count : ℕ} {s : State} (f : Formed count s) where
       (confirmed-byte key_size (slot_at k x.slot) x.hits ((keeper-slots f).each x.slot l) low))
       (λ e. keeper-same)
 
-  module _ (p : PolicyView) {m : List ℕ} {r : Verdict} {keeper' : List ℕ} (is : Reported s.keeper m r keeper') where
+  module _ (p : PolicyView) {m : List ℕ} {r : Result ⊤ Refusal} {keeper' : List ℕ} (is : Reported s.keeper m r keeper') where
     -- a report that is not refused was given
     reported-as : report_refused s.keeper m ≡ None → Memᴰ m s.reports → Stepped p count s (after s (report_call m r keeper'))
     unfolding step meaning report_answer

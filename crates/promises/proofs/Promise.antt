@@ -4,7 +4,7 @@ use mathlib.Core.Path.{◌≡◌, refl, sym, ap, ◌∙◌}
 use mathlib.Core.Logic.{◌≢◌}
 use mathlib.Core.List.Memᴰ
 use mathlib.Core.List.{List, [], ◌∷◌, Memᴰ}
-use Rattle.std.specs.Prelude.{Option, None, Some}
+use Rattle.std.specs.Prelude.{Option, None, Some, Ok}
 use Prim.Native.Nat.{ℕ, ◌*◌, ◌≤◌, ◌<◌}
 use native.Mathlib.Omega.{arith}
 use lib.ListN.{length, take}
@@ -42,7 +42,6 @@ use Rattle.table.specs.Writes.{write_call_refusal}
 use Rattle.table.proofs.ModelLaws.{taken_here, good-lookup}
 use Rattle.keeper.specs.Reports.{numbered, report_refused}
 use Rattle.keeper.specs.Opens.{open_in, open_refusal, Opened}
-use Rattle.checks.specs.declared.refusal.CountAnswer.TheVariants.{Count}
 use Rattle.keeper.proofs.ReportLaws.{report-meaning}
 use Rattle.keeper.proofs.OpenLaws.{list-few}
 use Rattle.miss.specs.Decision.{policy_view}
@@ -97,13 +96,13 @@ module _ (policy : List ℕ) (fine : policy_refusal policy ≡ None) {count : �
   table-entry i l = ap entry_of (slot-at key_size s.table i (omega (arith, f.table-long)))
 
   differs : (i : ℕ) → i < count → entry_of_bytes s.keeper i ≢ entry_of_bytes s.table i
-      → (n : ℕ) (out out' : List ℕ) → Opened s.keeper out (Count n) out' → (j : ℕ) × (j < n) × (be (part 2 (2 * j) out') ≡ i)
+      → (n : ℕ) (out out' : List ℕ) → Opened s.keeper out (Ok n) out' → (j : ℕ) × (j < n) × (be (part 2 (2 * j) out') ≡ i)
   unfolding meaning
   differs i l d n out out' is =
       open-listed s.keeper n out out' is i (omega (arith, f.few-there))
       (kept.differs i (λ e. d (sym (keeper-entry i l) ∙ e ∙ table-entry i l)))
 
-  same : (out out' : List ℕ) → Opened s.keeper out (Count 0) out'
+  same : (out out' : List ℕ) → Opened s.keeper out (Ok 0) out'
       → (i : ℕ) → i < count → entry_of_bytes s.keeper i ≡ entry_of_bytes s.table i
   unfolding meaning
   same out out' is i l =

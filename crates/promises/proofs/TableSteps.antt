@@ -1,7 +1,7 @@
 -- The table's calls as events: a lookup is a packet, a write that is not refused is one that arrives. Assumes nothing.
 use mathlib.Core.Path.{◌≡◌, refl, ◌∙◌}
 use mathlib.Core.List.{List, Memᴰ}
-use Rattle.std.specs.Prelude.{Option, None, Some}
+use Rattle.std.specs.Prelude.{Option, None, Some, Result, ⊤}
 use Prim.Native.Nat.{ℕ, ◌<◌}
 use native.Mathlib.Omega.{arith}
 use lib.ListN.{length}
@@ -21,7 +21,6 @@ use Rattle.table.specs.Lookups.{lookup_refusal, lookup_answer, table_after_looku
 use Rattle.table.specs.declared.LookupAnswer.{LookupAnswer}
 use Rattle.table.proofs.SlotReports.{report-fits}
 use Rattle.table.specs.Writes.{write_call_refusal, table_after_write, Received}
-use Rattle.checks.specs.declared.refusal.Verdict.{Verdict}
 use Rattle.table.proofs.WriteLaws.{good-call}
 use Rattle.table.proofs.ModelLaws.{taken-there, good-lookup, looked-up, received}
 use Rattle.table.proofs.AfterLaws.{after_lookup_lem, after_write_lem}
@@ -69,7 +68,7 @@ module _ (p : PolicyView) {count : ℕ} {s : State} (f : Formed count s) where
           formed = table-formed f (lookup_gave r out') lookup-replaced gives;
         }
 
-  module _ {m out : List ℕ} {r : Verdict} {table' out' : List ℕ} (is : Received s.table m out r table' out') where
+  module _ {m out : List ℕ} {r : Result ⊤ Refusal} {table' out' : List ℕ} (is : Received s.table m out r table' out') where
     -- a write that is not refused was given
     module _ (fine : write_call_refusal s.table m (length out) ≡ None) (given : Memᴰ m s.writes) where
       write-replaced : Replaced s.table table'

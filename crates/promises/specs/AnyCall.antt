@@ -1,5 +1,5 @@
 -- No call is shut out from the sequences. Assumes nothing.
-use Rattle.std.specs.Prelude.{◌≡◌, List, ℕ, ◌≤◌, None}
+use Rattle.std.specs.Prelude.{◌≡◌, List, ℕ, ◌≤◌, None, Result, ⊤}
 use Rattle.model.specs.Bits.{Bytes}
 use Rattle.ends.specs.Records.{Totals}
 use Rattle.records.specs.Layout.{most_slots}
@@ -7,10 +7,8 @@ use Rattle.policy.specs.Refusals.{policy_refusal}
 use Rattle.table.specs.Lookups.{LookedUp}
 use Rattle.table.specs.declared.LookupAnswer.{LookupAnswer}
 use Rattle.table.specs.Writes.{Received}
-use Rattle.checks.specs.declared.refusal.Verdict.{Verdict}
 use Rattle.keeper.specs.Reports.{Reported}
 use Rattle.keeper.specs.Opens.{Opened}
-use Rattle.checks.specs.declared.refusal.CountAnswer.{CountAnswer}
 use Rattle.miss.specs.declared.carry.MissAnswer.{MissAnswer}
 use Rattle.miss.specs.Answers.{Missed}
 use Rattle.run.specs.Runs.{RunIs}
@@ -21,11 +19,11 @@ use Rattle.promises.specs.Calls.{State, cleared_ends, Call, Sequence, Throughout
 pub record AnyCall (s : State) : Type 0 where
   pub lookups : (key out : List ℕ) → (r : LookupAnswer) × (table' : List ℕ) × (out' : List ℕ) × LookedUp key s.table out r table' out'
   pub writes : (m out : List ℕ) → Bytes m
-      → (r : Verdict) × (table' : List ℕ) × (out' : List ℕ) × Received s.table m out r table' out'
+      → (r : Result ⊤ Refusal) × (table' : List ℕ) × (out' : List ℕ) × Received s.table m out r table' out'
   pub misses : (policy key out : List ℕ) → Bytes policy
       → (r : MissAnswer) × (keeper' : List ℕ) × (out' : List ℕ) × Missed policy key s.keeper out r keeper' out'
-  pub reports : (m : List ℕ) → Bytes m → (r : Verdict) × (keeper' : List ℕ) × Reported s.keeper m r keeper'
-  pub opens : (out : List ℕ) → (r : CountAnswer) × (out' : List ℕ) × Opened s.keeper out r out'
+  pub reports : (m : List ℕ) → Bytes m → (r : Result ⊤ Refusal) × (keeper' : List ℕ) × Reported s.keeper m r keeper'
+  pub opens : (out : List ℕ) → (r : Result ℕ Refusal) × (out' : List ℕ) × Opened s.keeper out r out'
   pub runs : (policy trace out : List ℕ) (t : Totals) → Bytes policy
       → (r : Ran) × (table' : List ℕ) × (keeper' : List ℕ) × (out' : List ℕ) × RunIs policy trace s.table s.keeper out t r table' keeper' out'
 

@@ -1,6 +1,6 @@
 -- The two ends' bytes and the link between them: calls with any arguments, one after the other, trace runs among them. Each message that an
 -- accepted call gave is kept, so it may arrive at any later time, in any order, any number of times, or never. Assumes nothing.
-use Rattle.std.specs.Prelude.{◌≡◌, cond, ℕ, ◌*◌, length, take, replicate, Option, None, Some}
+use Rattle.std.specs.Prelude.{◌≡◌, cond, ℕ, ◌*◌, length, take, replicate, Option, None, Some, Result, Ok, Err, ⊤}
 use mathlib.Core.List.{List, [], ◌∷◌, Memᴰ}
 use Rattle.ends.specs.Records.{Totals}
 use Rattle.ends.specs.World.{sent}
@@ -11,11 +11,8 @@ use Rattle.table.specs.Lookups.{LookedUp}
 use Rattle.table.specs.declared.LookupAnswer.{LookupAnswer}
 use Rattle.table.specs.declared.LookupAnswer.TheVariants.{Refused as LookupRefused, Miss, Hit}
 use Rattle.table.specs.Writes.{write_call_refusal, Received}
-use Rattle.checks.specs.declared.refusal.Verdict.{Verdict}
-use Rattle.checks.specs.declared.refusal.Verdict.TheVariants.{Refused as WriteRefused, Fine}
 use Rattle.keeper.specs.Reports.{report_refused, Reported}
 use Rattle.keeper.specs.Opens.{Opened}
-use Rattle.checks.specs.declared.refusal.CountAnswer.{CountAnswer}
 use Rattle.records.specs.Outcomes.{gives_write}
 use Rattle.miss.specs.declared.carry.MissAnswer.{MissAnswer}
 use Rattle.miss.specs.declared.carry.MissAnswer.TheVariants.{Refused as MissRefused, Outcome}
@@ -45,10 +42,10 @@ cleared_ends count =
 -- the output
 pub data Call : Type 0 where
   lookup : (key out : List ℕ) → LookupAnswer → (table out' : List ℕ) → Call
-  write : (message out : List ℕ) → Verdict → (table out' : List ℕ) → Call
+  write : (message out : List ℕ) → Result ⊤ Refusal → (table out' : List ℕ) → Call
   miss : (policy key out : List ℕ) → MissAnswer → (keeper out' : List ℕ) → Call
-  report : (message : List ℕ) → Verdict → (keeper : List ℕ) → Call
-  open_slots : (out : List ℕ) → CountAnswer → (out' : List ℕ) → Call
+  report : (message : List ℕ) → Result ⊤ Refusal → (keeper : List ℕ) → Call
+  open_slots : (out : List ℕ) → Result ℕ Refusal → (out' : List ℕ) → Call
   run : (policy trace out : List ℕ) → Totals → Ran → (table keeper out' : List ℕ) → Call
 
 -- ---- one call
@@ -77,9 +74,9 @@ lookup_gave (LookupRefused r) out = None
 lookup_gave Miss out = None
 lookup_gave (Hit slot rule action) out = Some (take report_size out)
 
-abbrev pub write_gave : Verdict → List ℕ → Option (List ℕ)
-write_gave (WriteRefused r) out = None
-write_gave Fine out = Some (take report_size out)
+abbrev pub write_gave : Result ⊤ Refusal → List ℕ → Option (List ℕ)
+write_gave (Err r) out = None
+write_gave (Ok tt) out = Some (take report_size out)
 
 abbrev pub miss_gave : MissAnswer → List ℕ → Option (List ℕ)
 miss_gave (MissRefused r) out = None

@@ -1,9 +1,7 @@
 -- One input admits one answer: for each call, two results that meet its contract for the same input are equal. Assumes nothing.
-use Rattle.std.specs.Prelude.{◌≡◌, List, ℕ}
+use Rattle.std.specs.Prelude.{◌≡◌, List, ℕ, Result, ⊤}
 use Rattle.policy.specs.Answers.{check_answer}
-use Rattle.checks.specs.declared.refusal.CountAnswer.{CountAnswer}
 use Rattle.policy.specs.RecordAnswers.{record_answer, shown_record}
-use Rattle.checks.specs.declared.refusal.Verdict.{Verdict}
 use Rattle.policy.specs.BestAnswers.{best_answer}
 use Rattle.policy.specs.declared.BestAnswer.{BestAnswer}
 use Rattle.isolate.specs.Answers.{isolate_answer}
@@ -56,21 +54,21 @@ EquationLaw = (A B : Type 0) (f : A → B) → Single (Is f)
 
 -- the calls: input first, then the answer, with the buffers after the call where it leaves any
 pub record EachSingle : Type 0 where
-  pub checks : Single (λ (policy : Buffer) (x : CountAnswer). x ≡ check_answer policy)
+  pub checks : Single (λ (policy : Buffer) (x : Result ℕ Refusal). x ≡ check_answer policy)
   pub bests : Single (λ (a : Buffer × Buffer) (x : BestAnswer). x ≡ best_answer a.0 a.1)
   -- of a part that is lent: its bytes
   pub records : Single (λ (a : Buffer × ℕ) (x : Buffer). x ≡ shown_record a.0 a.1)
-  pub record-answers : Single (λ (a : Buffer × ℕ) (x : Verdict). x ≡ record_answer a.0 a.1)
+  pub record-answers : Single (λ (a : Buffer × ℕ) (x : Result ⊤ Refusal). x ≡ record_answer a.0 a.1)
   pub isolates : Single (λ (a : Buffer × Buffer × ℕ) (x : IsolateAnswer). x ≡ isolate_answer a.0 a.1 a.2)
   pub shows : Single (λ (a : Buffer × Buffer × Buffer) (x : Buffer). x ≡ shown_part a.0 a.1 a.2)
   pub show-answers : Single (λ (a : Buffer × Buffer × Buffer) (x : ShowAnswer). x ≡ show_answer a.0 a.1 a.2)
-  pub covers : Single (λ (a : Buffer × ℕ × Buffer) (x : CountAnswer × Buffer). Covered a.0 a.1 a.2 x.0 x.1)
+  pub covers : Single (λ (a : Buffer × ℕ × Buffer) (x : Result ℕ Refusal × Buffer). Covered a.0 a.1 a.2 x.0 x.1)
   pub lookups : Single (λ (a : Buffer × Buffer × Buffer) (x : LookupAnswer × Buffer × Buffer). LookedUp a.0 a.1 a.2 x.0 x.1 x.2)
-  pub writes : Single (λ (a : Buffer × Buffer × Buffer) (x : Verdict × Buffer × Buffer). Received a.0 a.1 a.2 x.0 x.1 x.2)
+  pub writes : Single (λ (a : Buffer × Buffer × Buffer) (x : Result ⊤ Refusal × Buffer × Buffer). Received a.0 a.1 a.2 x.0 x.1 x.2)
   pub misses : Single (λ (a : Buffer × Buffer × Buffer × Buffer) (x : MissAnswer × Buffer × Buffer).
       Missed a.0 a.1 a.2 a.3 x.0 x.1 x.2)
-  pub reports : Single (λ (a : Buffer × Buffer) (x : Verdict × Buffer). Reported a.0 a.1 x.0 x.1)
-  pub opens : Single (λ (a : Buffer × Buffer) (x : CountAnswer × Buffer). Opened a.0 a.1 x.0 x.1)
+  pub reports : Single (λ (a : Buffer × Buffer) (x : Result ⊤ Refusal × Buffer). Reported a.0 a.1 x.0 x.1)
+  pub opens : Single (λ (a : Buffer × Buffer) (x : Result ℕ Refusal × Buffer). Opened a.0 a.1 x.0 x.1)
   -- the answer, the totals and every byte of the three buffers, which `gathered` puts together
   pub runs : (policy trace table keeper out : Buffer) (t : Totals) (r r' : Ran) (ta ke ou ta' ke' ou' : Buffer)
       → RunIs policy trace table keeper out t r ta ke ou → RunIs policy trace table keeper out t r' ta' ke' ou'

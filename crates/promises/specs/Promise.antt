@@ -1,5 +1,5 @@
 -- Demand 3 about bytes: what holds of the two ends' buffers at every point of every sequence of calls. Assumes nothing.
-use Rattle.std.specs.Prelude.{◌≡◌, ◌≢◌, ℕ, ◌*◌, ◌≤◌, ◌<◌, length, None}
+use Rattle.std.specs.Prelude.{◌≡◌, ◌≢◌, ℕ, ◌*◌, ◌≤◌, ◌<◌, length, None, Ok}
 use mathlib.Core.List.{List, Memᴰ}
 use Rattle.model.specs.Bits.{Bytes}
 use Rattle.ends.specs.Records.{Entry, entry_of}
@@ -18,7 +18,6 @@ use Rattle.table.specs.declared.LookupAnswer.TheVariants.{Refused, Miss, Hit}
 use Rattle.table.specs.Writes.{write_call_refusal}
 use Rattle.keeper.specs.Reports.{report_refused}
 use Rattle.keeper.specs.Opens.{open_refusal, Opened}
-use Rattle.checks.specs.declared.refusal.CountAnswer.TheVariants.{Count}
 use Rattle.promises.specs.Calls.{State, cleared_ends, Call, Sequence, Throughout}
 
 -- a lookup's answer is a miss, or the best rule's number and that rule's action
@@ -40,9 +39,9 @@ pub record KeptBytes (policy : List ℕ) (count : ℕ) (s : State) : Type 0 wher
   pub opens : (out_len : ℕ) → 2 * count ≤ out_len → open_refusal s.keeper out_len ≡ None
   -- a slot whose bytes decode to different entries at the two ends is one of the numbers that it wrote
   pub differs : (i : ℕ) → i < count → entry_of_bytes s.keeper i ≢ entry_of_bytes s.table i
-      → (n : ℕ) (out out' : List ℕ) → Opened s.keeper out (Count n) out' → (j : ℕ) × (j < n) × (be (part 2 (2 * j) out') ≡ i)
+      → (n : ℕ) (out out' : List ℕ) → Opened s.keeper out (Ok n) out' → (j : ℕ) × (j < n) × (be (part 2 (2 * j) out') ≡ i)
   -- so an empty answer means the same entry in every slot
-  pub same : (out out' : List ℕ) → Opened s.keeper out (Count 0) out'
+  pub same : (out out' : List ℕ) → Opened s.keeper out (Ok 0) out'
       → (i : ℕ) → i < count → entry_of_bytes s.keeper i ≡ entry_of_bytes s.table i
   -- no message that was given is refused, where the output has room for a report
   pub writes_taken : (m : List ℕ) → Memᴰ m s.writes → (out_len : ℕ) → report_size ≤ out_len → write_call_refusal s.table m out_len ≡ None

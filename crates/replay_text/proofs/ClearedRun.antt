@@ -1,7 +1,7 @@
 -- A run from cleared ends: how it is refused, and what its output and totals say. Assumes nothing.
 use mathlib.Core.Path.{◌≡◌, refl, sym, ap, ◌∙◌}
 use mathlib.Core.List.{List, ◌∷◌, map}
-use Rattle.std.specs.Prelude.{None, Some}
+use Rattle.std.specs.Prelude.{None, Some, Result, Ok, Err}
 use Prim.Native.Nat.{ℕ, zero, suc, ◌*◌, ◌≤◌}
 use native.Mathlib.Nat.{le_of_suc-le-suc}
 use native.Mathlib.Omega.{arith}
@@ -20,8 +20,6 @@ use Rattle.records.proofs.SlotBufferLaws.{whole-slots}
 use Rattle.totals.specs.Sums.{as_totals, totals_fit}
 use Rattle.run.specs.Refusals.{trace_refusal, ends_refusal, run_refusal}
 use Rattle.run.specs.Runs.{RunIs}
-use Rattle.checks.specs.declared.refusal.CountAnswer.{CountAnswer}
-use Rattle.checks.specs.declared.refusal.CountAnswer.TheVariants.{Refused, Count}
 use Rattle.run.specs.declared.Ran.{Ran}
 use Rattle.run_laws.specs.Calls.{PastRun, Made}
 use Rattle.run_laws.proofs.AcceptedRuns.{AcceptedRun, accepted-run, refused-by, read_back}
@@ -86,10 +84,10 @@ module _ (n : ℕ) (some-there : 1 ≤ n) (few-there : n ≤ most_slots) (policy
   refused-same : run_refusal policy trace (cleared_end n) (cleared_end n) (length out) cleared_totals ≡ call_refusal policy trace
   refused-same = rw room (call-refusal n some-there few-there policy trace short)
 
-  cleared-refused : {r : Refusal} → ran.answer ≡ Refused r → call_refusal policy trace ≡ Some r
+  cleared-refused : {r : Refusal} → ran.answer ≡ Err r → call_refusal policy trace ≡ Some r
   cleared-refused e = sym refused-same ∙ refused-by cleared_totals call made e
 
-  module _ {k : ℕ} (e : ran.answer ≡ Count k) where
+  module _ {k : ℕ} (e : ran.answer ≡ Ok k) where
     accepted : AcceptedRun cleared_totals call k
     accepted = accepted-run cleared_totals call made e
 
@@ -110,6 +108,6 @@ module _ (n : ℕ) (some-there : 1 ≤ n) (few-there : n ≤ most_slots) (policy
   unfolding run_text
   ran-cleared = go ran.answer refl
     where
-      go : (a : CountAnswer) → ran.answer ≡ a → RanCleared n policy trace ran out'
-      go (Refused r) e = record { text = rw (e, cleared-refused e); few = rw e (omega arith) }
-      go (Count k) e = record { text = rw (e, cleared-fine e, cleared-lines e, cleared-totals e); few = rw e (cleared-few e) }
+      go : (a : Result ℕ Refusal) → ran.answer ≡ a → RanCleared n policy trace ran out'
+      go (Err r) e = record { text = rw (e, cleared-refused e); few = rw e (omega arith) }
+      go (Ok k) e = record { text = rw (e, cleared-fine e, cleared-lines e, cleared-totals e); few = rw e (cleared-few e) }

@@ -1,20 +1,19 @@
 -- What the answer about the files says, where they are taken and where they are refused. Assumes nothing.
 use mathlib.Core.Path.{◌≡◌, refl}
 use mathlib.Core.List.{List}
-use Rattle.std.specs.Prelude.{None, Some}
+use Rattle.std.specs.Prelude.{None, Some, Ok, Err}
 use Prim.Native.Nat.{ℕ, ◌≤◌}
 use native.Mathlib.Omega.{arith}
 use borrow.Author.Tests.{leb-true}
 use lib.Dec.{leb}
 use lib.ListN.{length}
-use Rattle.model.specs.Refusals.{too_many, bad_slots}
+use Rattle.checks.specs.declared.refusal.Refusal.TheVariants.{BadSlots, TooMany}
 use Rattle.records.specs.Layout.{most_slots}
 use Rattle.checks.specs.Refusals.{need}
 use Rattle.checks.specs.declared.refusal.Refusal.{Refusal}
-use Rattle.checks.proofs.RefusalLaws.{need-none, count-refused, count-given}
+use Rattle.checks.proofs.RefusalLaws.{need-none, answer-refused, answer-given}
 use Rattle.text.specs.SlotsText.{slots_in}
 use Rattle.replay_text.specs.Files.{most_policy_bytes, most_trace_bytes, file_refusal, file_answer}
-use Rattle.checks.specs.declared.refusal.CountAnswer.TheVariants.{Refused, Count}
 use Rattle.text.proofs.SlotsTextLaws.{slots-few}
 
 -- three files that are taken
@@ -26,19 +25,19 @@ pub record Taken (slots policy trace : List ℕ) (n : ℕ) : Type 0 where
   pub trace-short : length trace ≤ most_trace_bytes
 
 module _ (slots policy trace : List ℕ) where
-  pub files-refused : {r : Refusal} → file_answer slots policy trace ≡ Refused r → file_refusal slots policy trace ≡ Some r
+  pub files-refused : {r : Refusal} → file_answer slots policy trace ≡ Err r → file_refusal slots policy trace ≡ Some r
   unfolding file_answer
-  files-refused e = count-refused (file_refusal slots policy trace) (slots_in slots) refl e
+  files-refused e = answer-refused (file_refusal slots policy trace) (slots_in slots) refl e
 
-  pub files-taken : {n : ℕ} → file_answer slots policy trace ≡ Count n → Taken slots policy trace n
+  pub files-taken : {n : ℕ} → file_answer slots policy trace ≡ Ok n → Taken slots policy trace n
   unfolding file_answer file_refusal
   files-taken {n} e =
-      let of = count-given (file_refusal slots policy trace) (slots_in slots) refl e in
-      let trace-test = need (leb (length trace) most_trace_bytes) too_many None in
-      let policy-test = need (leb (length policy) most_policy_bytes) too_many trace-test in
-      let first = need-none (leb 1 (slots_in slots)) bad_slots policy-test of.0 in
-      let second = need-none (leb (length policy) most_policy_bytes) too_many trace-test first.1 in
-      let third = need-none (leb (length trace) most_trace_bytes) too_many None second.1 in
+      let of = answer-given (file_refusal slots policy trace) (slots_in slots) refl e in
+      let trace-test = need (leb (length trace) most_trace_bytes) TooMany None in
+      let policy-test = need (leb (length policy) most_policy_bytes) TooMany trace-test in
+      let first = need-none (leb 1 (slots_in slots)) BadSlots policy-test of.0 in
+      let second = need-none (leb (length policy) most_policy_bytes) TooMany trace-test first.1 in
+      let third = need-none (leb (length trace) most_trace_bytes) TooMany None second.1 in
       record {
         fine = of.0;
         count = of.1;

@@ -1,12 +1,10 @@
 -- What a run came to, written to an output. Assumes nothing.
 use mathlib.Core.Path.{◌≡◌, sym, ◌∙◌}
 use mathlib.Core.List.{List, ◌++◌}
-use Rattle.std.specs.Prelude.{Some}
+use Rattle.std.specs.Prelude.{Some, Result, Ok, Err}
 use Prim.Native.Nat.{ℕ}
 use Rattle.ends.specs.Records.{Totals}
 use Rattle.checks.specs.declared.refusal.Refusal.{Refusal}
-use Rattle.checks.specs.declared.refusal.CountAnswer.{CountAnswer}
-use Rattle.checks.specs.declared.refusal.CountAnswer.TheVariants.{Refused, Count, Refused as FilesRefused}
 use Rattle.lines.specs.Printed.{totals_line, refusal_line}
 use Rattle.lines.specs.Listing.{lines_in, TextPut}
 use Rattle.lines.proofs.PutLaws.{same-put}
@@ -14,12 +12,12 @@ use Rattle.replay_text.specs.Files.{file_refusal, file_answer}
 use Rattle.replay_text.proofs.FileLaws.{Taken, files-refused, files-taken}
 use Rattle.replay_text.specs.Text.{ran_text, outcomes_from, call_refusal, text_for, text_of_replay}
 
-module _ {a : CountAnswer} (t : Totals) (records : List ℕ) {out : List ℕ} {m : ℕ} {out' : List ℕ} where
-  pub refused-put : {r : Refusal} → a ≡ Refused r → TextPut (refusal_line r.number r.place) out m out'
+module _ {a : Result ℕ Refusal} (t : Totals) (records : List ℕ) {out : List ℕ} {m : ℕ} {out' : List ℕ} where
+  pub refused-put : {r : Refusal} → a ≡ Err r → TextPut (refusal_line r.number r.place) out m out'
       → TextPut (ran_text a t records) out m out'
   refused-put e p = rw e p
 
-  pub packets-put : {k : ℕ} → a ≡ Count k → TextPut (lines_in k records ++ totals_line t) out m out' → TextPut (ran_text a t records) out m out'
+  pub packets-put : {k : ℕ} → a ≡ Ok k → TextPut (lines_in k records ++ totals_line t) out m out' → TextPut (ran_text a t records) out m out'
   packets-put e p = rw e p
 
 module _ (slots policy trace : List ℕ) where
@@ -32,11 +30,11 @@ module _ (slots policy trace : List ℕ) where
   unfolding text_of_replay
   run-text t = rw (t.fine, t.count)
 
-  module _ {a : CountAnswer} (is : a ≡ file_answer slots policy trace) {out : List ℕ} {m : ℕ} {out' : List ℕ} where
-    pub text-refused : {r : Refusal} → a ≡ FilesRefused r → TextPut (refusal_line r.number r.place) out m out'
+  module _ {a : Result ℕ Refusal} (is : a ≡ file_answer slots policy trace) {out : List ℕ} {m : ℕ} {out' : List ℕ} where
+    pub text-refused : {r : Refusal} → a ≡ Err r → TextPut (refusal_line r.number r.place) out m out'
         → TextPut (text_of_replay slots policy trace) out m out'
     text-refused e p = same-put (refused-text (files-refused slots policy trace (sym is ∙ e))) p
 
-    pub text-run : {n : ℕ} → a ≡ Count n → TextPut (text_for (call_refusal policy trace) (outcomes_from n policy trace)) out m out'
+    pub text-run : {n : ℕ} → a ≡ Ok n → TextPut (text_for (call_refusal policy trace) (outcomes_from n policy trace)) out m out'
         → TextPut (text_of_replay slots policy trace) out m out'
     text-run e p = same-put (run-text (files-taken slots policy trace (sym is ∙ e))) p

@@ -1,12 +1,11 @@
 -- What the sizes of the program's files and slots.txt come to, before any other test. Assumes nothing.
-use Rattle.std.specs.Prelude.{List, ℕ, ◌*◌, leb, length, Option, None}
-use Rattle.model.specs.Refusals.{too_many, bad_slots}
+use Rattle.std.specs.Prelude.{List, ℕ, ◌*◌, leb, length, Option, None, Result}
+use Rattle.checks.specs.declared.refusal.Refusal.TheVariants.{BadSlots, TooMany}
 use Rattle.ternary.specs.Sizes.{key_size}
 use Rattle.records.specs.Layout.{rule_size, trace_size, most_rules, most_packets}
 use Rattle.checks.specs.declared.refusal.Refusal.{Refusal}
-use Rattle.checks.specs.Refusals.{need, count_answer_of}
+use Rattle.checks.specs.Refusals.{need, answer_of}
 use Rattle.text.specs.SlotsText.{slots_in}
-use Rattle.checks.specs.declared.refusal.CountAnswer.{CountAnswer}
 
 -- 32,768 and 65,536 bytes
 abbrev pub most_policy_bytes : ℕ
@@ -18,10 +17,10 @@ most_trace_bytes = trace_size key_size * most_packets
 -- slots.txt 4; policy file 2; trace file 2
 unfoldable pub file_refusal : List ℕ → List ℕ → List ℕ → Option Refusal
 file_refusal slots policy trace =
-    need (leb 1 (slots_in slots)) bad_slots
-    (need (leb (length policy) most_policy_bytes) too_many
-    (need (leb (length trace) most_trace_bytes) too_many
+    need (leb 1 (slots_in slots)) BadSlots
+    (need (leb (length policy) most_policy_bytes) TooMany
+    (need (leb (length trace) most_trace_bytes) TooMany
     None))
 
-unfoldable pub file_answer : List ℕ → List ℕ → List ℕ → CountAnswer
-file_answer slots policy trace = count_answer_of (file_refusal slots policy trace) (slots_in slots)
+unfoldable pub file_answer : List ℕ → List ℕ → List ℕ → Result ℕ Refusal
+file_answer slots policy trace = answer_of (file_refusal slots policy trace) (slots_in slots)

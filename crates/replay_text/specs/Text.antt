@@ -1,5 +1,5 @@
 -- What the program prints, from the bytes of its three files. Assumes nothing.
-use Rattle.std.specs.Prelude.{◌≡◌, List, ◌++◌, map, ℕ, ◌+◌, ◌*◌, ◌≤◌, replicate, Option, None, Some}
+use Rattle.std.specs.Prelude.{◌≡◌, List, ◌++◌, map, ℕ, ◌+◌, ◌*◌, ◌≤◌, replicate, Option, None, Some, Result, Ok, Err}
 use Rattle.ends.specs.Records.{Outcome, Totals}
 use Rattle.ends.specs.Totals.{cleared_totals, totals_after}
 use Rattle.ternary.specs.Sizes.{key_size}
@@ -12,8 +12,6 @@ use Rattle.totals.specs.Sums.{as_totals}
 use Rattle.policy.specs.Refusals.{policy_refusal}
 use Rattle.run.specs.Refusals.{trace_refusal}
 use Rattle.run.specs.Runs.{outcomes_of}
-use Rattle.checks.specs.declared.refusal.CountAnswer.{CountAnswer}
-use Rattle.checks.specs.declared.refusal.CountAnswer.TheVariants.{Refused, Count}
 use Rattle.run.specs.declared.Ran.{Ran}
 use Rattle.text.specs.Line.{line_size}
 use Rattle.lines.specs.Printed.{outcome_line, totals_line, refusal_line}
@@ -52,14 +50,14 @@ text_of_replay slots policy trace =
     text_for (or_else (file_refusal slots policy trace) (call_refusal policy trace)) (outcomes_from (slots_in slots) policy trace)
 
 -- what is printed of a run that answered this, with these totals, and whose output is `records`
-abbrev pub ran_text : CountAnswer → Totals → List ℕ → List ℕ
-ran_text (Refused r) t records = refusal_line r.number r.place
-ran_text (Count n) t records = lines_in n records ++ totals_line t
+abbrev pub ran_text : Result ℕ Refusal → Totals → List ℕ → List ℕ
+ran_text (Err r) t records = refusal_line r.number r.place
+ran_text (Ok n) t records = lines_in n records ++ totals_line t
 
 -- how many packets it had
-abbrev pub packets_of : CountAnswer → ℕ
-packets_of (Refused r) = 0
-packets_of (Count n) = n
+abbrev pub packets_of : Result ℕ Refusal → ℕ
+packets_of (Err r) = 0
+packets_of (Ok n) = n
 
 -- a run from cleared ends of n slots, with its output after it
 pub record RanCleared (n : ℕ) (policy trace : List ℕ) (ran : Ran) (records : List ℕ) : Type 0 where

@@ -1,7 +1,7 @@
 -- The table looks the packet's key up: a hit, whose report goes to the keeper, or a miss. Assumes nothing.
 use mathlib.Core.Path.{◌≡◌, refl, sym, ap, ◌∙◌}
 use mathlib.Core.List.{List}
-use Rattle.std.specs.Prelude.{Option, None, Some}
+use Rattle.std.specs.Prelude.{Option, None, Some, Result, ⊤}
 use Prim.Native.Nat.{ℕ, ◌<◌}
 use native.Mathlib.Omega.{arith}
 use lib.ListN.{length}
@@ -24,7 +24,6 @@ use Rattle.table.specs.declared.LookupAnswer.{LookupAnswer}
 use Rattle.table.specs.declared.LookupAnswer.TheVariants.{Hit}
 use Rattle.table.proofs.ModelLaws.{good-lookup, looked-up}
 use Rattle.keeper.specs.Reports.{Reported}
-use Rattle.checks.specs.declared.refusal.Verdict.{Verdict}
 use Rattle.run.proofs.SendLaws.{same_ends, told-fits, reported-to}
 use Rattle.run.specs.Packets.{FinePacket, PacketDone, missed_outcome, missed_ends, packet_outcome, packet_ends}
 
@@ -46,7 +45,7 @@ module _ {policy key table keeper out table' out' : List ℕ} {r : LookupAnswer}
   found_in {slot} None e = let z : ◌≡◌ {A = ℕ} 0 1 = cc in absurd (omega arith)
   found_in {slot} (Some i) e = let s : i ≡ slot = cc in (ap Some s, rw (← s) cc, rw (← s) cc)
 
-  pub packet-hit : {slot rule action : ℕ} {keeper' : List ℕ} {a : Verdict} → r ≡ Hit slot rule action → length table' ≡ length table
+  pub packet-hit : {slot rule action : ℕ} {keeper' : List ℕ} {a : Result ⊤ Refusal} → r ≡ Hit slot rule action → length table' ≡ length table
       → Bytes table' → Reported keeper out' a keeper'
       → PacketDone (packet_outcome policy key table keeper) (packet_ends policy key table keeper)
       (record { outcome = 1; action = action; rule = rule; slot = slot; evicted = nothing }) table' keeper'

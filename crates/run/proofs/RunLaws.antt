@@ -2,7 +2,7 @@
 use mathlib.Core.Path.{◌≡◌, refl, sym, ap, ◌∙◌}
 use mathlib.Core.Bool.{not}
 use mathlib.Core.List.{List}
-use Rattle.std.specs.Prelude.{Option, None}
+use Rattle.std.specs.Prelude.{Option, None, Result, Ok, Err, ⊤}
 use Prim.Native.Nat.{ℕ, ◌*◌, ◌%◌, ◌≤◌}
 use native.Mathlib.Omega.{arith}
 use lib.Dec.{leb, ltb, eqb}
@@ -32,9 +32,6 @@ use Rattle.totals.proofs.SumLaws.{fit-most}
 use Rattle.run.specs.Steps.{RunFits, RanOver}
 use Rattle.run.specs.Refusals.{trace_refusal, ends_refusal, run_refusal}
 use Rattle.run.specs.Runs.{RunResult, run_of, RunIs}
-use Rattle.checks.specs.declared.refusal.Verdict.{Verdict}
-use Rattle.checks.specs.declared.refusal.Verdict.TheVariants.{Refused as PartRefused}
-use Rattle.checks.specs.declared.refusal.CountAnswer.TheVariants.{Refused, Count}
 
 -- ---- where no part is refused
 
@@ -92,15 +89,15 @@ module _ (policy trace table keeper out : List ℕ) (t : TotalsStruct) where
   abbrev refused : Option Refusal
   refused = run_refusal policy trace table keeper (length out) (as_totals t)
 
-  pub run-refused : {r : Refusal} {a : Verdict} → a ≡ verdict_of refused → a ≡ PartRefused r
-      → RunIs policy trace table keeper out (as_totals t) (record { answer = Refused r; totals = t }) table keeper out
+  pub run-refused : {r : Refusal} {a : Result ⊤ Refusal} → a ≡ verdict_of refused → a ≡ Err r
+      → RunIs policy trace table keeper out (as_totals t) (record { answer = Err r; totals = t }) table keeper out
   unfolding run_of
   run-refused e s = let o = verdict-refused refused e s in record { whole = rw o; meaning = rw o }
 
   pub run_ran : {s : TotalsStruct} {table' keeper' out' : List ℕ} → refused ≡ None
       → RanOver policy (keys key_size trace) table keeper out (as_totals t) table' keeper' out' (as_totals s)
       → length table' ≡ length table → Bytes table' → length keeper' ≡ length keeper → Bytes keeper'
-      → RunIs policy trace table keeper out (as_totals t) (record { answer = Count (packet_count key_size trace); totals = s }) table' keeper' out'
+      → RunIs policy trace table keeper out (as_totals t) (record { answer = Ok (packet_count key_size trace); totals = s }) table' keeper' out'
   unfolding run_of
   run_ran {table' = table'} {keeper'} o did l h m g =
       let w = (run_fits policy trace table keeper out (as_totals t) o).0 in

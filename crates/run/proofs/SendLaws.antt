@@ -1,7 +1,7 @@
 -- A report that goes to the keeper; a write that goes to the table, and its report back. Assumes nothing.
 use mathlib.Core.Path.{◌≡◌, refl, sym, ap, ◌∙◌}
 use mathlib.Core.List.{List}
-use Rattle.std.specs.Prelude.{Option, None, Some}
+use Rattle.std.specs.Prelude.{Option, None, Some, Result, Ok, Err, ⊤}
 use Prim.Native.Nat.{ℕ, ◌<◌}
 use native.Mathlib.Omega.{arith}
 use lib.ListN.{length}
@@ -25,8 +25,6 @@ use Rattle.end_records.proofs.WriteLaws.{decode-encode-write, length-encode-writ
 use Rattle.end_records.proofs.ReportLaws.{decode-encode-report}
 use Rattle.table.proofs.SlotReports.{report-fits}
 use Rattle.table.specs.Writes.{write_call_refusal, Received, slots_after_write}
-use Rattle.checks.specs.declared.refusal.Verdict.{Verdict}
-use Rattle.checks.specs.declared.refusal.Verdict.TheVariants.{Refused, Fine}
 use Rattle.checks.proofs.RefusalLaws.{verdict-refused, verdict-fine}
 use Rattle.table.proofs.WriteLaws.{good-call}
 use Rattle.table.proofs.ModelLaws.{taken_here, taken-there, received}
@@ -58,7 +56,7 @@ module _ (keeper : List ℕ) (x : Report) (whole : WholeSlots keeper) (f : Repor
       report-meaning keeper (encode_report x) whole (unfold encode_report in refl) (unfold encode_report in refl) (unfold encode_report in refl)
       ∙ ap (λ (y : Report). numbered (report_refusal k y)) (decode-encode-report x f)
 
-  pub reported-to : {message keeper' : List ℕ} {r : Verdict} → message ≡ encode_report x → Reported keeper message r keeper'
+  pub reported-to : {message keeper' : List ℕ} {r : Result ⊤ Refusal} → message ≡ encode_report x → Reported keeper message r keeper'
       → slots key_size keeper' ≡ reported_to k x (report_refusal k x)
   reported-to {keeper' = keeper'} e is =
       let told : slots key_size keeper' ≡ unless_refused (report_refused keeper (encode_report x)) k
@@ -69,7 +67,7 @@ module _ (keeper : List ℕ) (x : Report) (whole : WholeSlots keeper) (f : Repor
 
 -- ---- a write goes to the table
 
-module _ {table keeper m out table' out' : List ℕ} {r : Verdict} {w : Write}
+module _ {table keeper m out table' out' : List ℕ} {r : Result ⊤ Refusal} {w : Write}
     (ends : WholeEnds table keeper) (f : WriteFits key_size w) (spells : m ≡ encode_write w) (room : length out ≡ report_size)
     (is : Received table m out r table' out') where
   abbrev t : List Slot
@@ -91,13 +89,13 @@ module _ {table keeper m out table' out' : List ℕ} {r : Verdict} {w : Write}
   kept (Some number) e s = refl
   kept None e s = none-some (sym (here e) ∙ s)
 
-  pub sent-refused : {q : Refusal} → r ≡ Refused q → ends_in table' keeper ≡ sent_ends table keeper w
+  pub sent-refused : {q : Refusal} → r ≡ Err q → ends_in table' keeper ≡ sent_ends table keeper w
   unfolding slots_after_write
   sent-refused {q} e =
       let s : write_call_refusal table m (length out) ≡ Some q = verdict-refused _ is.answer e in
       same_ends refl (rw s at is.meaning) ∙ sym (kept (write_refusal positions t w) refl s)
 
-  pub sent-taken : {keeper' : List ℕ} {a : Verdict} → r ≡ Fine → length table' ≡ length table → Bytes table'
+  pub sent-taken : {keeper' : List ℕ} {a : Result ⊤ Refusal} → r ≡ (Ok tt) → length table' ≡ length table → Bytes table'
       → Reported keeper out' a keeper' → ends_in table' keeper' ≡ sent_ends table keeper w
   unfolding write_report
   sent-taken {keeper'} e l h reported =

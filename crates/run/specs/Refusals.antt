@@ -1,7 +1,7 @@
 -- How a run is refused, in the order of the tests. Assumes nothing.
 use Rattle.std.specs.Prelude.{List, ℕ, ◌*◌, leb, eqb, length, Option, None}
 use Rattle.ends.specs.Records.{Totals}
-use Rattle.model.specs.Refusals.{lengths_differ, totals_full, short_output}
+use Rattle.checks.specs.declared.refusal.Refusal.TheVariants.{LengthsDiffer, ShortOutput, TotalsFull}
 use Rattle.ternary.specs.Sizes.{key_size}
 use Rattle.records.specs.Layout.{trace_size, outcome_size, most_packets}
 use Rattle.records.specs.Traces.{packet_count}
@@ -19,7 +19,7 @@ trace_refusal bs = records_refusal (trace_size key_size) most_packets (trace_fla
 -- table 4; keeper 4; 12
 unfoldable pub ends_refusal : List ℕ → List ℕ → Option Refusal
 ends_refusal table keeper =
-    or_else (slots_refusal table) (or_else (slots_refusal keeper) (need (eqb (length table) (length keeper)) lengths_differ None))
+    or_else (slots_refusal table) (or_else (slots_refusal keeper) (need (eqb (length table) (length keeper)) LengthsDiffer None))
 
 -- policy 1, 2, 3; trace 1, 2, 3; table 4; keeper 4; 12; 13; 5, where the output has out_len bytes
 unfoldable pub run_refusal : List ℕ → List ℕ → List ℕ → List ℕ → ℕ → Totals → Option Refusal
@@ -27,4 +27,4 @@ run_refusal policy trace table keeper out_len t =
     or_else (policy_refusal policy)
     (or_else (trace_refusal trace)
     (or_else (ends_refusal table keeper)
-    (need (totals_fit t) totals_full (need (leb (outcome_size * packet_count key_size trace) out_len) short_output None))))
+    (need (totals_fit t) TotalsFull (need (leb (outcome_size * packet_count key_size trace) out_len) ShortOutput None))))

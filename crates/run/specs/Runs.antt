@@ -1,5 +1,5 @@
 -- What a run answers, and what it leaves in the buffers and the totals. Assumes nothing.
-use Rattle.std.specs.Prelude.{◌≡◌, List, ℕ, length, Option, None, Some}
+use Rattle.std.specs.Prelude.{◌≡◌, List, ℕ, length, Option, None, Some, Result, Ok, Err}
 use Rattle.ends.specs.Records.{Outcome, Totals}
 use Rattle.ends.specs.Trace.{Ends}
 use Rattle.ends.specs.Totals.{totals_after}
@@ -13,8 +13,6 @@ use Rattle.totals.specs.Sums.{as_totals}
 use Rattle.run.specs.Send.{ends_in}
 use Rattle.run.specs.Steps.{told_by, ends_after}
 use Rattle.run.specs.Refusals.{run_refusal}
-use Rattle.checks.specs.declared.refusal.CountAnswer.{CountAnswer}
-use Rattle.checks.specs.declared.refusal.CountAnswer.TheVariants.{Refused, Count}
 use Rattle.run.specs.declared.Ran.{Ran}
 
 -- the model's run over the decoded bytes: its outcomes, and the two ends after it
@@ -26,7 +24,7 @@ ends_of policy trace table keeper = ends_after policy table keeper (keys key_siz
 
 -- all that a call shows: the answer, the totals, and the bytes of the three buffers
 pub record RunResult : Type 0 where
-  pub answer : CountAnswer
+  pub answer : Result ℕ Refusal
   pub totals : Totals
   pub table : List ℕ
   pub keeper : List ℕ
@@ -34,10 +32,10 @@ pub record RunResult : Type 0 where
 
 -- a refusal leaves all as it was; else the totals advance, the ends are those of the model's run, and the outcomes go to the output's start
 abbrev pub run_result_of : Option Refusal → List ℕ → List ℕ → List ℕ → List ℕ → List ℕ → Totals → RunResult
-run_result_of (Some r) policy trace table keeper out t = record { answer = Refused r; totals = t; table = table; keeper = keeper; out = out }
+run_result_of (Some r) policy trace table keeper out t = record { answer = Err r; totals = t; table = table; keeper = keeper; out = out }
 run_result_of None policy trace table keeper out t =
     record {
-      answer = Count (packet_count key_size trace);
+      answer = Ok (packet_count key_size trace);
       totals = totals_after t (outcomes_of policy trace table keeper);
       table = spelled encode_slot (ends_of policy trace table keeper).table;
       keeper = spelled encode_slot (ends_of policy trace table keeper).keeper;

@@ -2,7 +2,7 @@
 use mathlib.Core.Path.{◌≡◌, refl, sym, ap, ◌∙◌}
 use mathlib.Core.Bool.{Bool, cond}
 use mathlib.Core.List.{List, [], ◌∷◌, ◌++◌, map}
-use Rattle.std.specs.Prelude.{Option, None, Some}
+use Rattle.std.specs.Prelude.{Option, None, Some, Result, Ok, Err}
 use Prim.Native.Nat.{ℕ, suc, ◌*◌}
 use native.Mathlib.Nat.{zero-add}
 use native.Mathlib.Omega.{arith}
@@ -25,8 +25,6 @@ use Rattle.miss.specs.Decision.{policy_view}
 use Rattle.run.specs.Send.{ends_in}
 use Rattle.run.specs.Refusals.{run_refusal}
 use Rattle.run.specs.Runs.{outcomes_of, ends_of, RunResult, run_result_of, run_of, ends_left}
-use Rattle.checks.specs.declared.refusal.CountAnswer.{CountAnswer}
-use Rattle.checks.specs.declared.refusal.CountAnswer.TheVariants.{Refused, Count}
 use Rattle.run_laws.specs.Calls.{PastRun, Made, left, outcomes_in}
 
 -- what an accepted call of n packets left
@@ -46,11 +44,11 @@ module _ (t : Totals) (c : PastRun) (is : Made t c) where
   abbrev shown : Option Refusal → RunResult
   shown o = run_result_of o c.policy c.trace c.table c.keeper c.out t
 
-  packets-fine : (o : Option Refusal) {n : ℕ} → Count n ≡ (shown o).answer → o ≡ None
+  packets-fine : (o : Option Refusal) {n : ℕ} → Ok n ≡ (shown o).answer → o ≡ None
   packets-fine (Some r) e = let z : ◌≡◌ {A = ℕ} 0 1 = cc in absurd (omega arith)
   packets-fine None e = refl
 
-  refused-some : (o : Option Refusal) {r : Refusal} → Refused r ≡ (shown o).answer → o ≡ Some r
+  refused-some : (o : Option Refusal) {r : Refusal} → Err r ≡ (shown o).answer → o ≡ Some r
   refused-some (Some q) e = cc
   refused-some None e = let z : ◌≡◌ {A = ℕ} 0 1 = cc in absurd (omega arith)
 
@@ -63,11 +61,11 @@ module _ (t : Totals) (c : PastRun) (is : Made t c) where
   answer-of : c.ran.answer ≡ (shown refused_with).answer
   answer-of = ap (λ (s : RunResult). s.answer) (whole_of refused_with refl)
 
-  pub accepted-run : {n : ℕ} → c.ran.answer ≡ Count n → AcceptedRun t c n
+  pub accepted-run : {n : ℕ} → c.ran.answer ≡ Ok n → AcceptedRun t c n
   accepted-run {n} a =
       let fine : refused_with ≡ None = packets-fine refused_with (sym a ∙ answer-of) in
       let w = whole_of None fine in
-      let count : Count n ≡ Count (packet_count key_size c.trace) = sym a ∙ ap (λ (s : RunResult). s.answer) w in
+      let count : Ok n ≡ Ok (packet_count key_size c.trace) = sym a ∙ ap (λ (s : RunResult). s.answer) w in
       record {
         fine = fine;
         count = cc;
@@ -78,10 +76,10 @@ module _ (t : Totals) (c : PastRun) (is : Made t c) where
         meaning = is.meaning ∙ ap (λ o. ends_left o c.policy c.trace c.table c.keeper) fine;
       }
 
-  pub refused-by : {r : Refusal} → c.ran.answer ≡ Refused r → refused_with ≡ Some r
+  pub refused-by : {r : Refusal} → c.ran.answer ≡ Err r → refused_with ≡ Some r
   refused-by a = refused-some refused_with (sym a ∙ answer-of)
 
-  pub refused-run : {r : Refusal} → c.ran.answer ≡ Refused r → left c ≡ t
+  pub refused-run : {r : Refusal} → c.ran.answer ≡ Err r → left c ≡ t
   refused-run {r} a = ap (λ (s : RunResult). s.totals) (whole_of (Some r) (refused-by a))
 
 -- ---- the outcomes in the output
@@ -131,8 +129,8 @@ unfolding totals_after
 read-totals t os = rw (read_length os, read_count is_hit os, read_count is_miss os, read_count is_no_rule os, read_count is_eviction os)
 
 -- so the totals after a call are those of the outcomes that its output tells
-pub told-totals : (t : Totals) (c : PastRun) → Made t c → (a : CountAnswer) → c.ran.answer ≡ a → left c ≡ totals_after t (outcomes_in a c.out')
-told-totals t c is (Refused r) e = refused-run t c is e ∙ sym (totals-none t)
-told-totals t c is (Count n) e =
+pub told-totals : (t : Totals) (c : PastRun) → Made t c → (a : Result ℕ Refusal) → c.ran.answer ≡ a → left c ≡ totals_after t (outcomes_in a c.out')
+told-totals t c is (Err r) e = refused-run t c is e ∙ sym (totals-none t)
+told-totals t c is (Ok n) e =
     let h = accepted-run t c is e in
     h.sums ∙ sym (ap (totals_after t) (read_back h) ∙ read-totals t (outcomes_of c.policy c.trace c.table c.keeper))

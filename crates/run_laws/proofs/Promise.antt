@@ -1,4 +1,5 @@
 -- The totals over all calls, and a trace cut into parts. Assumes nothing.
+use Rattle.std.specs.Prelude.{Result, Ok, Err}
 use mathlib.Core.Path.{◌≡◌, refl, sym, ap, subst, ◌∙◌}
 use mathlib.Core.List.{List, [], ◌∷◌, ◌++◌, map, flatten, append-nil}
 use Prim.Native.Nat.{ℕ, ◌+◌, ◌*◌}
@@ -20,8 +21,6 @@ use Rattle.totals.specs.Sums.{as_totals}
 use Rattle.miss.specs.Decision.{policy_view}
 use Rattle.run.specs.Send.{ends_in}
 use Rattle.run.proofs.RunLaws.{run-whole}
-use Rattle.checks.specs.declared.refusal.CountAnswer.{CountAnswer}
-use Rattle.checks.specs.declared.refusal.CountAnswer.TheVariants.{Refused, Count}
 use Rattle.run_laws.specs.Calls.{PastRun, Made, left, InTurn, last_of, told_in, TotalsPromise}
 use Rattle.run_laws.specs.Calls.{Part, past_run, AcceptedPart, Successive, last_part, joined, told_bytes, CutPromise}
 use Rattle.run_laws.proofs.AcceptedRuns.{AcceptedRun, accepted-run, refused-run, told-bytes, told-totals}
@@ -33,9 +32,9 @@ unfolding totals_over
 over t [] is = refl
 over t (c ∷ cs) is = over (left c) cs is.1 ∙ ap (λ (x : Totals). totals_over x (map told_in cs)) (told-totals t c is.0 c.ran.answer refl)
 
-balanced-call : (t : Totals) (c : PastRun) → Made t c → (a : CountAnswer) → c.ran.answer ≡ a → Balanced t → Balanced (left c)
-balanced-call t c is (Refused r) e h = subst Balanced (sym (refused-run t c is e)) h
-balanced-call t c is (Count n) e h =
+balanced-call : (t : Totals) (c : PastRun) → Made t c → (a : Result ℕ Refusal) → c.ran.answer ≡ a → Balanced t → Balanced (left c)
+balanced-call t c is (Err r) e h = subst Balanced (sym (refused-run t c is e)) h
+balanced-call t c is (Ok n) e h =
     subst Balanced (sym (accepted-run t c is e).sums)
     (balance-law positions (policy_view c.policy) (ends_in c.table c.keeper) (keys key_size c.trace) t h)
 

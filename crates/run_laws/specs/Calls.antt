@@ -1,5 +1,5 @@
 -- Calls of the run, one after another, by what each was lent and what it left. Assumes nothing.
-use Rattle.std.specs.Prelude.{◌≡◌, ℕ, ◌*◌, take}
+use Rattle.std.specs.Prelude.{◌≡◌, ℕ, ◌*◌, take, Result, Ok, Err}
 use mathlib.Core.List.{List, [], ◌∷◌, map, flatten}
 use Rattle.ends.specs.Records.{Outcome, Totals}
 use Rattle.ends.specs.Totals.{cleared_totals, CountsOf, Balanced}
@@ -8,8 +8,6 @@ use Rattle.records.specs.Layout.{outcome_size}
 use Rattle.records.specs.Outcomes.{decode_outcome}
 use Rattle.totals.specs.Sums.{as_totals}
 use Rattle.run.specs.Runs.{RunIs}
-use Rattle.checks.specs.declared.refusal.CountAnswer.{CountAnswer}
-use Rattle.checks.specs.declared.refusal.CountAnswer.TheVariants.{Refused, Count}
 use Rattle.run.specs.declared.Ran.{Ran}
 
 -- a call that was made: the buffers that it was lent, what it answered, and the buffers after it
@@ -44,9 +42,9 @@ last_of t [] = t
 last_of t (c ∷ cs) = last_of (left c) cs
 
 -- the outcomes that the output's bytes tell, where the call was accepted
-abbrev pub outcomes_in : CountAnswer → List ℕ → List Outcome
-outcomes_in (Refused r) out = []
-outcomes_in (Count n) out = records_in outcome_size decode_outcome n out
+abbrev pub outcomes_in : Result ℕ Refusal → List ℕ → List Outcome
+outcomes_in (Err r) out = []
+outcomes_in (Ok n) out = records_in outcome_size decode_outcome n out
 
 abbrev pub told_in : PastRun → List Outcome
 told_in c = outcomes_in c.ran.answer c.out'
@@ -86,7 +84,7 @@ past_run policy table keeper x =
 
 -- with that policy, from those ends and totals, the call did what the run promises, and was accepted
 abbrev pub AcceptedPart : List ℕ → List ℕ → List ℕ → Totals → Part → Type 0
-AcceptedPart policy table keeper t x = (count : ℕ) × (x.ran.answer ≡ Count count) × Made t (past_run policy table keeper x)
+AcceptedPart policy table keeper t x = (count : ℕ) × (x.ran.answer ≡ Ok count) × Made t (past_run policy table keeper x)
 
 -- calls in succession: each goes on with the ends and the totals that the one before it left
 abbrev pub Successive : List ℕ → List ℕ → List ℕ → Totals → List Part → Type 0
@@ -103,9 +101,9 @@ abbrev pub joined : List Part → List ℕ
 joined xs = flatten (map (λ (x : Part). x.trace) xs)
 
 -- the outcomes that a call told, byte by byte
-abbrev pub packets_in : CountAnswer → ℕ
-packets_in (Refused r) = 0
-packets_in (Count n) = n
+abbrev pub packets_in : Result ℕ Refusal → ℕ
+packets_in (Err r) = 0
+packets_in (Ok n) = n
 
 abbrev pub told_bytes : Part → List ℕ
 told_bytes x = take (outcome_size * packets_in x.ran.answer) x.out'

@@ -3,7 +3,7 @@
 use mathlib.Core.Path.{◌≡◌, refl}
 use mathlib.Core.Bool.{false}
 use mathlib.Core.List.{List}
-use Rattle.std.specs.Prelude.{Option, None, Some}
+use Rattle.std.specs.Prelude.{Option, None, Some, Result, Ok, ⊤}
 use mathlib.Core.Logic.{◌↔◌}
 use Prim.Native.Nat.{ℕ, ◌≤◌}
 use native.Mathlib.Omega.{arith}
@@ -29,8 +29,6 @@ use Rattle.table.specs.Lookups.{hit_refusal, lookup_refusal, GoodLookup, lookup_
 use Rattle.table.specs.Lookups.{lookup_answer, slots_after_lookup, out_after_lookup, LookedUp}
 use Rattle.table.specs.Writes.{write_call_refusal, GoodWrite, slots_after_write, out_after_write, Received}
 use Rattle.table.specs.declared.LookupAnswer.{LookupAnswer}
-use Rattle.checks.specs.declared.refusal.Verdict.{Verdict}
-use Rattle.checks.specs.declared.refusal.Verdict.TheVariants.{Fine}
 use Rattle.table.proofs.LookupLaws.{lookup-whole, hit-long}
 use Rattle.table.proofs.WriteLaws.{good-call}
 
@@ -104,9 +102,9 @@ module _ {key table out table' out' : List ℕ} {r : LookupAnswer} (is : LookedU
   unfolding lookup_answer slots_after_lookup out_after_lookup
   looked-up e = (rw e at is.answer, rw e at is.meaning, rw e at is.out-after)
 
-module _ {table m out table' out' : List ℕ} {r : Verdict} (is : Received table m out r table' out') where
+module _ {table m out table' out' : List ℕ} {r : Result ⊤ Refusal} (is : Received table m out r table' out') where
   pub received : write_call_refusal table m (length out) ≡ None
-      → (r ≡ Fine) × (slots key_size table' ≡ after_write (slots key_size table) (decode_write key_size m))
+      → (r ≡ (Ok tt)) × (slots key_size table' ≡ after_write (slots key_size table) (decode_write key_size m))
       × (out' ≡ splice 0 (encode_report (write_report (slots key_size table) (decode_write key_size m))) out)
   unfolding slots_after_write out_after_write
   received e = (rw e at is.answer, rw e at is.meaning, rw e at is.out-after)

@@ -2,7 +2,7 @@
 use mathlib.Core.Path.{◌≡◌, refl}
 use mathlib.Core.Bool.{not}
 use mathlib.Core.List.{List}
-use Rattle.std.specs.Prelude.{None}
+use Rattle.std.specs.Prelude.{None, Ok, Err}
 use mathlib.Core.Logic.{◌↔◌}
 use Prim.Native.Nat.{ℕ}
 use native.Mathlib.Omega.{arith}
@@ -28,7 +28,6 @@ use Rattle.slots.specs.Stores.{Stored}
 use Rattle.table.specs.Writes.{write_message_refusal, write_call_refusal, GoodWrite, GoodCall, slots_after_write}
 use Rattle.table.specs.Writes.{table_after_write, out_after_write, Received}
 use Rattle.checks.specs.Refusals.{verdict_of}
-use Rattle.checks.specs.declared.refusal.Verdict.TheVariants.{Refused, Fine}
 
 -- ---- what the answer says
 
@@ -76,21 +75,21 @@ module _ (table m : List ℕ) (out_len : ℕ) where
     λ h. rw ((slots-accepted table).1 h.whole, (good-write m (slot_count key_size table)).1 h.good, le-leb _ _ h.fits),
   )
 
-  pub taken-good : Fine ≡ verdict_of (write_call_refusal table m out_len) → GoodCall table m out_len
+  pub taken-good : (Ok tt) ≡ verdict_of (write_call_refusal table m out_len) → GoodCall table m out_len
   taken-good e = good-call.0 (verdict-fine (write_call_refusal table m out_len) e refl)
 
 -- ---- the call
 
 module _ (table m out : List ℕ) where
-  pub received-refused : (r : Refusal) → Refused r ≡ verdict_of (write_call_refusal table m (length out)) → Received table m out (Refused r) table out
+  pub received-refused : (r : Refusal) → Err r ≡ verdict_of (write_call_refusal table m (length out)) → Received table m out (Err r) table out
   unfolding slots_after_write table_after_write out_after_write
   received-refused r e =
       let refused = verdict-refused (write_call_refusal table m (length out)) e refl in
       record { answer = rw refused; table-after = rw refused; meaning = rw refused; out-after = rw refused }
 
-  pub received-taken : (w : Write) (x : Slot) (table' out' : List ℕ) → Fine ≡ verdict_of (write_call_refusal table m (length out))
+  pub received-taken : (w : Write) (x : Slot) (table' out' : List ℕ) → (Ok tt) ≡ verdict_of (write_call_refusal table m (length out))
       → w ≡ decode_write key_size m → Stored table w x table' → out' ≡ splice 0 (encode_report (report_for w.slot x)) out
-      → Received table m out Fine table' out'
+      → Received table m out (Ok tt) table' out'
   unfolding slots_after_write table_after_write out_after_write write_report
   received-taken w x table' out' e d s t =
       let good : write_call_refusal table m (length out) ≡ None = verdict-fine (write_call_refusal table m (length out)) e refl in

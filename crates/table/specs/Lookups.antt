@@ -1,7 +1,7 @@
 -- The table looks a key up: the answer, the table's bytes after it, and the output's. Assumes nothing.
 use Rattle.std.specs.Prelude.{◌≡◌, List, ℕ, ◌≤◌, leb, length, Option, None, Some}
 use Rattle.ends.specs.Records.{Slot, slot_at}
-use Rattle.model.specs.Refusals.{short_output}
+use Rattle.checks.specs.declared.refusal.Refusal.TheVariants.{ShortOutput}
 use Rattle.ends.specs.Ends.{Hit, counted, first_for, lookup, after_lookup}
 use Rattle.ternary.specs.Sizes.{key_size, positions}
 use Rattle.buffers.specs.Parts.{splice}
@@ -20,7 +20,7 @@ use Rattle.table.specs.declared.LookupAnswer.TheVariants.{Refused, Miss, Hit as 
 
 -- 5: an output of out_len bytes is shorter than a report
 abbrev pub short_for_report : ℕ → Option Refusal
-short_for_report out_len = need (leb report_size out_len) short_output None
+short_for_report out_len = need (leb report_size out_len) ShortOutput None
 
 -- only a hit has an answer to write
 abbrev pub hit_refusal : {A : Type 0} → Option A → ℕ → Option Refusal

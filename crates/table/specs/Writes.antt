@@ -1,7 +1,7 @@
 -- The table receives a write: the answer, the table's bytes after it, and the output's. Assumes nothing.
-use Rattle.std.specs.Prelude.{◌≡◌, not, List, ℕ, ◌≤◌, ◌<◌, ltb, eqb, length, get_or, Option, None}
+use Rattle.std.specs.Prelude.{◌≡◌, not, List, ℕ, ◌≤◌, ◌<◌, ltb, eqb, length, get_or, Option, None, Result, ⊤}
 use Rattle.ends.specs.Records.{Slot}
-use Rattle.model.specs.Refusals.{ragged, bad_record, wrong_kind, no_such_slot, sequence_zero}
+use Rattle.checks.specs.declared.refusal.Refusal.TheVariants.{BadRecord, NoSuchSlot, Ragged, SequenceZero, WrongKind}
 use Rattle.ends.specs.Ends.{after_write, write_report}
 use Rattle.ternary.specs.Sizes.{key_size}
 use Rattle.buffers.specs.Parts.{splice}
@@ -17,16 +17,15 @@ use Rattle.end_records.specs.Writes.{decode_write}
 use Rattle.end_records.specs.Reports.{encode_report}
 use Rattle.table.specs.Lookups.{short_for_report}
 use Rattle.slots.specs.Stores.{stored_bytes}
-use Rattle.checks.specs.declared.refusal.Verdict.{Verdict}
 
 -- message 1, 8, 3, 9, 10, where the table has `count` slots
 unfoldable pub write_message_refusal : List ℕ → ℕ → Option Refusal
 write_message_refusal m count =
-    need (eqb (length m) (write_size key_size)) ragged
-    (need (eqb (get_or m write_kind 0) is_write) wrong_kind
-    (need (not (is_flawed (write_flaw key_size m))) bad_record
-    (need (ltb (decode_write key_size m).slot count) no_such_slot
-    (need (not (eqb (decode_write key_size m).sequence 0)) sequence_zero None))))
+    need (eqb (length m) (write_size key_size)) Ragged
+    (need (eqb (get_or m write_kind 0) is_write) WrongKind
+    (need (not (is_flawed (write_flaw key_size m))) (BadRecord 0)
+    (need (ltb (decode_write key_size m).slot count) NoSuchSlot
+    (need (not (eqb (decode_write key_size m).sequence 0)) SequenceZero None))))
 
 -- table 4; the message's; then 5
 unfoldable pub write_call_refusal : List ℕ → List ℕ → ℕ → Option Refusal
@@ -49,7 +48,7 @@ out_after_write table m out =
     (splice 0 (encode_report (write_report (slots key_size table) (decode_write key_size m))) out)
 
 -- what it is to receive a write: the answer r, and the buffers after it
-pub record Received (table m out : List ℕ) (r : Verdict) (table' out' : List ℕ) : Type 0 where
+pub record Received (table m out : List ℕ) (r : Result ⊤ Refusal) (table' out' : List ℕ) : Type 0 where
   pub answer : r ≡ verdict_of (write_call_refusal table m (length out))
   pub table-after : table' ≡ table_after_write table m (length out)
   pub meaning : slots key_size table' ≡ slots_after_write table m (length out)

@@ -7,7 +7,7 @@ use Rattle.buffers.specs.Parts.{splice}
 use Rattle.end_records.specs.Slots.{slots}
 use Rattle.end_records.specs.Reports.{decode_report}
 use Rattle.lists.specs.Written.{number_bytes}
-use Rattle.checks.specs.Refusals.{count_answer_of, unless_refused}
+use Rattle.checks.specs.Refusals.{answer_of, unless_refused}
 use Rattle.slots.specs.Settle.{report_bytes}
 use Rattle.keeper.specs.Reports.{report_refused, report_answer}
 use Rattle.keeper.specs.Opens.{open_in, open_refusal}
@@ -37,5 +37,5 @@ pub record ReportCall (keeper m : List ℕ) (r : WgDone) (keeper' : List ℕ) : 
   pub keeper-after : keeper' ≡ unless_refused (report_refused keeper m) keeper (report_bytes keeper (decode_report m))
 
 pub record OpenCall (keeper out : List ℕ) (r : WgCount) (out' : List ℕ) : Type 0 where
-  pub answer : r ≡ count_for_c (count_answer_of (open_refusal keeper (length out)) (length (open_in keeper)))
+  pub answer : r ≡ count_for_c (answer_of (open_refusal keeper (length out)) (length (open_in keeper)))
   pub out-after : out' ≡ unless_refused (open_refusal keeper (length out)) out (splice 0 (number_bytes (open_in keeper)) out)
