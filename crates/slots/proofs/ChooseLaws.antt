@@ -19,7 +19,6 @@ use Rattle.ternary.specs.Sizes.{key_size}
 use Rattle.end_records.specs.Slots.{slots}
 use Rattle.records.specs.SlotBuffers.{slot_count}
 use Rattle.end_records.proofs.SlotLaws.{slot-count}
-use Rattle.slots.proofs.FindLaws.{found_nowhere, found_at}
 use Rattle.slots.specs.Choose.{first_empty}
 
 module _ (bs : List ℕ) where
@@ -64,14 +63,14 @@ module _ (bs : List ℕ) where
     pub full-more : its ≡ (slot_at k i).sequence → its ≢ 0 → Full (i + 1)
     full-more e n = record { passed = passed-more is.passed (rw (← e) (ne_eqb its 0 n)) }
 
-    pub empty-here : i < slot_count key_size bs → its ≡ (slot_at k i).sequence → its ≡ 0 → Some i ≡ (first_empty k)
+    pub empty-here : i < slot_count key_size bs → its ≡ (slot_at k i).sequence → its ≡ 0 → Some i ≡ first_empty k
     empty-here l e z =
         let t : is_empty (slot_at k i) ≡ true = rw (← e) (eq-eqb its 0 z) in
-        sym (ap (first_found (λ j. is_empty (slot_at k j)) (length k) i is.passed (omega (arith, slot-count key_size bs)) t))
+        sym (first_found (λ j. is_empty (slot_at k j)) (length k) i is.passed (omega (arith, slot-count key_size bs)) t)
 
-  pub empty-nowhere : {i : ℕ} → Full i → slot_count key_size bs ≤ i → None ≡ (first_empty k)
+  pub empty-nowhere : {i : ℕ} → Full i → slot_count key_size bs ≤ i → None ≡ first_empty k
   empty-nowhere {i} is l =
-      sym (ap (first-missed (λ j. is_empty (slot_at k j)) (length k) i is.passed (omega (arith, slot-count key_size bs))))
+      sym (first-missed (λ j. is_empty (slot_at k j)) (length k) i is.passed (omega (arith, slot-count key_size bs)))
 
   -- ---- the slot that is given up
 
@@ -103,10 +102,10 @@ module _ (bs : List ℕ) where
 
   -- ---- the slot for a new entry
 
-  pub entry-empty : {h : Option ℕ} {i : ℕ} → h ≡ (first_empty k) → h ≡ Some i → i ≡ slot_for_entry k
+  pub entry-empty : {h : Option ℕ} {i : ℕ} → h ≡ first_empty k → h ≡ Some i → i ≡ slot_for_entry k
   unfolding slot_for_entry
-  entry-empty {h} {i} e t = rw (found_at (first_empty k) i (sym t ∙ e))
+  entry-empty {h} {i} e t = rw (sym e ∙ t)
 
-  pub entry-given-up : {h : Option ℕ} {i : ℕ} → h ≡ (first_empty k) → h ≡ None → i ≡ given_up k → i ≡ slot_for_entry k
+  pub entry-given-up : {h : Option ℕ} {i : ℕ} → h ≡ first_empty k → h ≡ None → i ≡ given_up k → i ≡ slot_for_entry k
   unfolding slot_for_entry
-  entry-given-up {h} e t g = rw (found_nowhere (first_empty k) (sym t ∙ e)) g
+  entry-given-up {h} e t g = rw (sym e ∙ t) g

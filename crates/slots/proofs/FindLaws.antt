@@ -31,25 +31,17 @@ module _ {w : ℕ} {bs : List ℕ} {key : Key} {i : ℕ} (is : Unheld w bs key i
   unheld-more t = record { passed = passed-more is.passed t }
 
   -- the search stops at a slot that takes the key, or has passed them all
-  pub held-here : i < slot_count w bs → holds (w * 8) (slots w bs) key i ≡ true → Some i ≡ (first_for (w * 8) (slots w bs) key)
+  pub held-here : i < slot_count w bs → holds (w * 8) (slots w bs) key i ≡ true → Some i ≡ first_for (w * 8) (slots w bs) key
   unfolding first_for
   held-here l t =
-      sym (ap (first_found (holds (w * 8) (slots w bs) key) (length (slots w bs)) i is.passed (omega (arith, slot-count w bs)) t))
+      sym (first_found (holds (w * 8) (slots w bs) key) (length (slots w bs)) i is.passed (omega (arith, slot-count w bs)) t)
 
-  pub held-nowhere : slot_count w bs ≤ i → None ≡ (first_for (w * 8) (slots w bs) key)
+  pub held-nowhere : slot_count w bs ≤ i → None ≡ first_for (w * 8) (slots w bs) key
   unfolding first_for
   held-nowhere l =
-      sym (ap (first-missed (holds (w * 8) (slots w bs) key) (length (slots w bs)) i is.passed (omega (arith, slot-count w bs))))
+      sym (first-missed (holds (w * 8) (slots w bs) key) (length (slots w bs)) i is.passed (omega (arith, slot-count w bs)))
 
--- ---- what the answer says, for its callers
-
-pub found_nowhere : (o : Option ℕ) → None ≡ o → o ≡ None
-found_nowhere None e = refl
-found_nowhere (Some i) e = let z : ◌≡◌ {A = ℕ} 0 1 = cc in absurd (omega arith)
-
-pub found_at : (o : Option ℕ) (i : ℕ) → Some i ≡ o → o ≡ Some i
-found_at None i e = let z : ◌≡◌ {A = ℕ} 0 1 = cc in absurd (omega arith)
-found_at (Some k) i e = cc
+-- ---- for its callers
 
 -- a slot that takes the key is one of the buffer, which has few where its slots are whole
 module _ (bs : List ℕ) (key : Key) (i : ℕ) (e : first_for positions (slots key_size bs) key ≡ Some i) where

@@ -1,5 +1,3 @@
--- What the search for a slot that takes a key answers.
-pub mod Find
 -- What it is to put an entry into its slot, and to store a write.
 pub mod Puts
 pub mod Stores

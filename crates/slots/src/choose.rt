@@ -5,10 +5,8 @@ ghost use Rattle.ends.specs.Ends.{largest, given_up_before, given_up, slot_for_e
 ghost use Rattle.ternary.specs.Sizes.{key_size};
 ghost use Rattle.end_records.specs.Slots.{slots};
 ghost use Rattle.records.specs.SlotBuffers.{slot_count};
-ghost use Rattle.slots.specs.Find.{slot_found_of};
 ghost use Rattle.slots.specs.Choose.{first_empty};
 
-use crate::find::SlotFound;
 use buffers::larger;
 use end_records::fields;
 use records::layout;
@@ -17,29 +15,23 @@ use records::layout;
 pub fn largest_sequence(keeper: &[u8]) -> u32
     ensures { result ≡ largest (slots key_size keeper.now) }
 {
-    let n = keeper.len() / layout::SLOT_SIZE;
     let mut most: u32 = 0;
-    let mut i = 0;
-    while i < n {
+    for i in 0..keeper.len() / layout::SLOT_SIZE {
         most = larger(most, fields::sequence_at(keeper, i));
-        i += 1;
     }
     most
 }
 
 // The lowest empty slot.
-fn first_empty(keeper: &[u8]) -> SlotFound
-    ensures { result ≡ slot_found_of (first_empty (slots key_size keeper.now)) }
+fn first_empty(keeper: &[u8]) -> Option<usize>
+    ensures { result ≡ first_empty (slots key_size keeper.now) }
 {
-    let n = keeper.len() / layout::SLOT_SIZE;
-    let mut i = 0;
-    while i < n {
+    for i in 0..keeper.len() / layout::SLOT_SIZE {
         if fields::sequence_at(keeper, i) == 0 {
-            return SlotFound::At(i);
+            return Some(i);
         }
-        i += 1;
     }
-    SlotFound::Nowhere
+    None
 }
 
 // Whether slot a is given up before slot b: fewer hits, or as many and a smaller sequence.
@@ -63,14 +55,11 @@ fn given_up(keeper: &[u8]) -> usize
     requires { 0 < slot_count key_size keeper.now }
     ensures { result ≡ given_up (slots key_size keeper.now) }
 {
-    let n = keeper.len() / layout::SLOT_SIZE;
     let mut best: usize = 0;
-    let mut i = 1;
-    while i < n {
+    for i in 1..keeper.len() / layout::SLOT_SIZE {
         if given_up_before(keeper, i, best) {
             best = i;
         }
-        i += 1;
     }
     best
 }
@@ -81,7 +70,7 @@ pub fn slot_for_entry(keeper: &[u8]) -> usize
     ensures { result ≡ slot_for_entry (slots key_size keeper.now) }
 {
     match first_empty(keeper) {
-        SlotFound::At(i) => i,
-        SlotFound::Nowhere => given_up(keeper),
+        Some(i) => i,
+        None => given_up(keeper),
     }
 }

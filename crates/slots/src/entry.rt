@@ -15,15 +15,14 @@ use end_records::write::Write;
 fn written(w: Write) -> Slot
     ensures { as_slot result ≡ newly_written (entry_in (as_write w)) }
 {
-    let value = w.value;
-    let mask = w.mask;
+    let Write { sequence, value, mask, action, rule, .. } = w;
     Slot {
-        sequence: w.sequence,
+        sequence,
         hits: 0,
         value,
         mask,
-        action: w.action,
-        rule: w.rule,
+        action,
+        rule,
         settled: 0,
         spare: 0,
     }

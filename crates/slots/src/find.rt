@@ -4,7 +4,6 @@ ghost use Rattle.ends.specs.Ends.{holds, first_for};
 ghost use Rattle.ternary.specs.Sizes.{key_size, positions};
 ghost use Rattle.end_records.specs.Slots.{slots};
 ghost use Rattle.records.specs.SlotBuffers.{slot_count};
-ghost use Rattle.slots.specs.Find.{slot_found_of};
 
 use end_records::fields;
 use records::layout;
@@ -26,25 +25,15 @@ fn slot_holds(s: &[u8], i: usize, key: &[u8]) -> bool
     )
 }
 
-// The lowest slot that takes a key, or that there is none.
-#[derive(Clone, Copy)]
-pub enum SlotFound {
-    Nowhere,
-    At(usize),
-}
-
 // The lowest slot of an end that is not empty and takes the key.
-pub fn first_slot_for(s: &[u8], key: &[u8]) -> SlotFound
+pub fn first_slot_for(s: &[u8], key: &[u8]) -> Option<usize>
     requires { length key.now ≡ key_size }
-    ensures { result ≡ slot_found_of (first_for positions (slots key_size s.now) key.now) }
+    ensures { result ≡ first_for positions (slots key_size s.now) key.now }
 {
-    let n = s.len() / layout::SLOT_SIZE;
-    let mut i = 0;
-    while i < n {
+    for i in 0..s.len() / layout::SLOT_SIZE {
         if slot_holds(s, i, key) {
-            return SlotFound::At(i);
+            return Some(i);
         }
-        i += 1;
     }
-    SlotFound::Nowhere
+    None
 }

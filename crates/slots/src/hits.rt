@@ -16,17 +16,9 @@ fn counted(x: Slot) -> Slot
     if x.hits == layout::MOST_HITS {
         return x;
     }
-    let value = x.value;
-    let mask = x.mask;
     Slot {
-        sequence: x.sequence,
         hits: x.hits + 1,
-        value,
-        mask,
-        action: x.action,
-        rule: x.rule,
-        settled: x.settled,
-        spare: x.spare,
+        ..x
     }
 }
 

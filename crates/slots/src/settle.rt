@@ -15,17 +15,10 @@ use end_records::slot::Slot;
 fn confirmed_slot(old: Slot, hits: u32) -> Slot
     ensures { as_slot result ≡ confirmed (as_slot old) hits }
 {
-    let value = old.value;
-    let mask = old.mask;
     Slot {
-        sequence: old.sequence,
         hits: buffers::larger(old.hits, hits),
-        value,
-        mask,
-        action: old.action,
-        rule: old.rule,
         settled: 1,
-        spare: old.spare,
+        ..old
     }
 }
 

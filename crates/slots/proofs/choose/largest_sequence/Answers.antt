@@ -5,11 +5,11 @@ use Rattle.slots.proofs.ChooseLaws.{most-none, most-more, most-done}
 use Rattle.slots.proofs.choose.largest_sequence.Goals as goal
 
 pub loop-i-init : goal.loop-i-init
-loop-i-init c = (search rules, most-none _)
+loop-i-init c = most-none _
 
 pub loop-i-preserved : goal.loop-i-preserved
 loop-i-preserved c =
-    (search rules, most-more _ c.loop-i.invariant.1 c.loop-i-test.true c.sequence_at.ensures c.larger-most.ensures)
+    most-more _ c.loop-i.invariant c.loop-i-test.true c.sequence_at.ensures c.larger-most.ensures
 
 pub returns : goal.returns
-returns c = let l = c.loop-i in most-done _ l.invariant.1 (le_antisymm l.invariant.0 c.loop-i-test.false)
+returns c = let l = c.loop-i in most-done _ l.invariant (le_antisymm l.auto.i-end c.loop-i-test.false)

@@ -1,10 +1,6 @@
 -- `slots::choose::largest_sequence` meets its contract: the largest of the first i sequences is kept. Assumes nothing.
-use Prim.Native.Nat.{◌≤◌, ◌-◌}
 use Rattle.slots.proofs.ChooseLaws.{MostSoFar}
 use Rattle.slots.proofs.choose.largest_sequence.Given as goal
 
 abbrev pub invariant-loop-i : goal.invariant-loop-i
-invariant-loop-i l = (l.i ≤ l.n) × MostSoFar l.keeper l.i l.most
-
-abbrev pub decreases-loop-i : goal.decreases-loop-i
-decreases-loop-i l = l.n - l.i
+invariant-loop-i l = MostSoFar l.keeper l.i l.most

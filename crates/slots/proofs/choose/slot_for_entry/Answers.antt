@@ -2,8 +2,8 @@
 use Rattle.slots.proofs.ChooseLaws.{entry-empty, entry-given-up}
 use Rattle.slots.proofs.choose.slot_for_entry.Goals as goal
 
-pub returns-in-At : goal.returns-in-At
-returns-in-At c = entry-empty _ c.first_empty.ensures c.in-At.is
+pub returns-in-Some : goal.returns-in-Some
+returns-in-Some c = entry-empty _ c.first_empty.ensures c.in-Some.is
 
-pub returns-in-Nowhere : goal.returns-in-Nowhere
-returns-in-Nowhere c = entry-given-up _ c.first_empty.ensures c.in-Nowhere.is c.given_up.ensures
+pub returns-in-None : goal.returns-in-None
+returns-in-None c = entry-given-up _ c.first_empty.ensures c.in-None.is c.given_up.ensures

@@ -9,11 +9,11 @@ loop-i-init c = search (rules, unheld-none)
 
 pub returns-then-slot_holds : goal.returns-then-slot_holds
 returns-then-slot_holds c =
-    held-here c.loop-i.invariant.1 c.loop-i-test.true (sym c.slot_holds.ensures ∙ c.if-slot_holds.true)
+    held-here c.loop-i.invariant c.loop-i-test.true (sym c.slot_holds.ensures ∙ c.if-slot_holds.true)
 
 pub loop-i-preserved : goal.loop-i-preserved
 loop-i-preserved c =
-    (search rules, unheld-more c.loop-i.invariant.1 (sym c.slot_holds.ensures ∙ c.if-slot_holds.false))
+    unheld-more c.loop-i.invariant (sym c.slot_holds.ensures ∙ c.if-slot_holds.false)
 
 pub returns : goal.returns
-returns c = held-nowhere c.loop-i.invariant.1 c.loop-i-test.false
+returns c = held-nowhere c.loop-i.invariant c.loop-i-test.false
