@@ -11,6 +11,7 @@ use Rattle.c_answers.specs.declared.structs.WgDone.{WgDone}
 use Rattle.c_answers.specs.declared.structs.WgCount.{WgCount}
 use Rattle.c_answers.specs.declared.structs.WgBestAnswer.{WgBestAnswer}
 use Rattle.c_answers.specs.declared.structs.WgFound.{WgFound}
+use Rattle.checks.specs.declared.refusal.Refusal.{Refusal}
 use Rattle.c_answers.specs.declared.structs.WgOutcome.{WgOutcome}
 
 -- a write, a report

@@ -6,6 +6,7 @@ use Rattle.records.specs.Layout.{rule_size, slot_size}
 use Rattle.show.specs.declared.ShowAnswer.{ShowAnswer}
 use Rattle.show.specs.declared.ShowAnswer.TheVariants.{Refused as ShowRefused, NoRule as ShowNone, FromTable, FromPolicy}
 use Rattle.c_answers.specs.declared.structs.WgPart.{WgPart}
+use Rattle.checks.specs.declared.refusal.Refusal.{Refusal}
 use Rattle.c_answers.specs.declared.structs.WgShown.{WgShown}
 
 -- where the record of that number lies in the policy

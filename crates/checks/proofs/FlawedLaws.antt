@@ -16,7 +16,8 @@ use Rattle.checks.specs.declared.flaw.Flaw.{Flaw}
 use Rattle.checks.specs.declared.flawed.Flawed.{Flawed}
 use Rattle.checks.specs.Flawed.{first_flawed, flawed_at, flaw_at}
 
-none-of : (x : Option Flaw) → is_some x ≡ false → x ≡ None
+-- what has no flaw is clean
+pub none-of : (x : Option Flaw) → is_some x ≡ false → x ≡ None
 none-of None e = refl
 none-of (Some f) e = let z : true ≡ false = cc in let y : ◌≡◌ {A = ℕ} 0 1 = cc in absurd (omega arith)
 

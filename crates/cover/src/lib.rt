@@ -6,21 +6,17 @@ pub mod precedence;
 
 ghost use Rattle.cover.specs.Answers.{Covered};
 
-use checks::refusal;
-use checks::refusal::CountAnswer;
+use checks::refusal::Refusal;
 
-// Writes the cover list of a rule to the start of `out`, two bytes a number, in order of precedence; a refusal writes nothing.
-pub fn cover(policy: &[u8], number: usize, out: &mut [u8]) -> CountAnswer
+// Writes the cover list of a rule to the start of `out`, two bytes a number, in order of precedence, and gives how many they are; a refusal writes
+// nothing.
+pub fn cover(policy: &[u8], number: usize, out: &mut [u8]) -> Result<usize, Refusal>
     ensures { Covered policy.now number out.old result out.new }
 {
-    match policy::check(policy) {
-        CountAnswer::Refused(r) => CountAnswer::Refused(r),
-        CountAnswer::Count(n) => {
-            if n <= number {
-                return CountAnswer::Refused(refusal::at_no_place(refusal::NO_SUCH_RULE));
-            }
-            let list = dependents::dependents_of(policy, number);
-            lists::list_answer(list, out)
-        }
+    let count = policy::check(policy)?;
+    if number >= count {
+        return Err(Refusal::NoSuchRule);
     }
+    let list = dependents::dependents_of(policy, number);
+    lists::list_answer(list, out)
 }

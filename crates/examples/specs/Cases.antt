@@ -2,6 +2,7 @@
 use Rattle.std.specs.Prelude.{List, [], ◌∷◌, ◌++◌, ℕ, length, Result, Ok}
 use Rattle.model.specs.Small.{row}
 use Rattle.buffers.specs.Parts.{splice}
+use Rattle.checks.specs.declared.refusal.Refusal.{Refusal}
 use Rattle.checks.specs.Refusals.{unless_refused, answer_of}
 use Rattle.policy.specs.BestAnswers.{best_answer}
 use Rattle.policy.specs.declared.BestAnswer.{BestAnswer}

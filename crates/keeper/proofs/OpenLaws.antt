@@ -11,6 +11,7 @@ use lib.ListN.{length, take, set, length-set}
 use lib.Seq.{take-suc-set}
 use Rattle.ends.specs.Records.{slot_at}
 use Rattle.ends.specs.Ends.{is_open, open_list}
+use Rattle.checks.specs.declared.refusal.Refusal.{Refusal}
 use Rattle.checks.specs.declared.refusal.Refusal.TheVariants.{BadSlots}
 use Rattle.model.proofs.OrderLaws.{list-more}
 use Rattle.ternary.specs.Sizes.{key_size}

@@ -3,20 +3,22 @@ use mathlib.Core.Path.{◌≡◌, refl}
 use mathlib.Core.Bool.{false, not}
 use mathlib.Core.List.{List}
 use mathlib.Core.Logic.{◌≢◌}
-use Rattle.std.specs.Prelude.{Option, None, Some, Result, Ok, Err, ⊤}
+use Rattle.std.specs.Prelude.{Option, None, Some, Result, Ok, Err, ⊤, is_some, option_map}
 use Prim.Native.Nat.{ℕ, ◌≤◌, ◌<◌}
 use native.Mathlib.Omega.{arith}
-use lib.Dec.{leb, eqb}
+use lib.Dec.{leb, ltb, eqb}
 use lib.ListN.{length, get_or}
 use borrow.Author.Tests.{eqb-true, eq-eqb, ne_eqb, le-leb, lt-leb, lt-ltb, le-ltb}
 use Rattle.ends.specs.Records.{Slot, Report, slot_at}
 use Rattle.ends.specs.Ends.{report_refusal}
 use Rattle.ends.proofs.Refusals.{report-there}
-use Rattle.checks.specs.declared.refusal.Refusal.TheVariants.{BadRecord, NoSuchSlot, Ragged, ReportAhead, SequenceZero, WrongKind}
+use Rattle.model.proofs.Cases.{by_cases}
+use Rattle.checks.specs.declared.refusal.Refusal.TheVariants.{Ragged, BadRecord, WrongKind}
+use Rattle.model.specs.Refusals as number
 use Rattle.ternary.specs.Sizes.{key_size}
 use Rattle.records.specs.Layout.{report_kind, report_zero, report_size, is_report}
-use Rattle.checks.specs.Refusals.{need, verdict_of}
-use Rattle.checks.specs.Flaws.{is_flawed, report_flaw}
+use Rattle.checks.specs.Refusals.{need, verdict_of, number_of}
+use Rattle.checks.specs.Flaws.{report_flaw}
 use Rattle.checks.specs.declared.refusal.Refusal.{Refusal}
 use Rattle.end_records.specs.Slots.{slots}
 use Rattle.records.specs.SlotBuffers.{slot_count, WholeSlots}
@@ -35,12 +37,20 @@ pub not-refused : (o : Option ℕ) → numbered o ≡ None → o ≡ None
 not-refused None e = refl
 not-refused (Some n) e = let z : ◌≡◌ {A = ℕ} 0 1 = cc in absurd (omega arith)
 
+-- a refusal of a report against the slots has the model's number
+pub numbered-number : (k : List Slot) (x : Report) → option_map number_of (numbered (report_refusal k x)) ≡ report_refusal k x
+unfolding report_refusal
+numbered-number k x =
+    by_cases (leb (length k) x.slot) (λ a. rw a)
+    (λ a. by_cases (eqb x.sequence 0) (λ b. rw (a, b))
+    (λ b. by_cases (ltb (slot_at k x.slot).sequence x.sequence) (λ d. rw (a, b, d)) (λ d. rw (a, b, d))))
+
 -- bytes that are not refused are as many as a report has
 pub bytes-long : (message : List ℕ) → bytes_refusal message ≡ None → length message ≡ report_size
 unfolding bytes_refusal
 bytes-long message e =
     eqb-true _ _ (need-none (eqb (length message) report_size) Ragged
-    (need (eqb (get_or message report_kind 0) is_report) WrongKind (need (not (is_flawed (report_flaw message))) (BadRecord 0) None)) e).0
+    (need (eqb (get_or message report_kind 0) is_report) WrongKind (need (not (is_some (report_flaw message))) (BadRecord 0) None)) e).0
 
 -- ---- the report against the slots: 9, 10, 11
 
@@ -52,7 +62,7 @@ module _ (keeper : List ℕ) (x : Report) where
   abbrev Told : Result ⊤ Refusal → Option ℕ → Type 0
   Told r o = r ≡ verdict_of (numbered o) → r ≡ verdict_of (numbered (report_refusal k x))
 
-  pub no_slot : {r : Result ⊤ Refusal} {i : ℕ} → i ≡ x.slot → slot_count key_size keeper ≤ i → Told r (Some NoSuchSlot)
+  pub no_slot : {r : Result ⊤ Refusal} {i : ℕ} → i ≡ x.slot → slot_count key_size keeper ≤ i → Told r (Some number.no_such_slot)
   unfolding report_refusal
   no_slot e l t = rw (le-leb (length k) x.slot (omega (arith, slot-count key_size keeper))) t
 
@@ -60,12 +70,12 @@ module _ (keeper : List ℕ) (x : Report) where
     inside : leb (length k) x.slot ≡ false
     inside = lt-leb (length k) x.slot (omega (arith, slot-count key_size keeper))
 
-    pub no-sequence : {r : Result ⊤ Refusal} → x.sequence ≡ 0 → Told r (Some SequenceZero)
+    pub no-sequence : {r : Result ⊤ Refusal} → x.sequence ≡ 0 → Told r (Some number.sequence_zero)
     unfolding report_refusal
     no-sequence z t = rw (inside, eq-eqb x.sequence 0 z) t
 
     module _ {last : ℕ} (is : last ≡ (slot_at k i).sequence) where
-      pub too-new : {r : Result ⊤ Refusal} → x.sequence ≢ 0 → last < x.sequence → Told r (Some ReportAhead)
+      pub too-new : {r : Result ⊤ Refusal} → x.sequence ≢ 0 → last < x.sequence → Told r (Some number.report_ahead)
       unfolding report_refusal
       too-new n m t = rw (inside, ne_eqb x.sequence 0 n, ← e, ← is, lt-ltb last x.sequence m) t
 

@@ -1,27 +1,28 @@
 -- What the keeper answers to a report, and what it leaves in its buffer. Assumes nothing.
-use Rattle.std.specs.Prelude.{◌≡◌, not, List, ℕ, eqb, length, get_or, Option, None, Some, Result, ⊤}
+use Rattle.std.specs.Prelude.{◌≡◌, not, List, ℕ, eqb, length, get_or, Option, None, Some, Result, ⊤, is_some, cond}
 use Rattle.ends.specs.Ends.{report_refusal, after_report}
-use Rattle.checks.specs.declared.refusal.Refusal.TheVariants.{BadRecord, Ragged, WrongKind}
+use Rattle.checks.specs.declared.refusal.Refusal.TheVariants.{Ragged, BadRecord, WrongKind, NoSuchSlot, SequenceZero, ReportAhead}
+use Rattle.model.specs.Refusals as number
 use Rattle.ternary.specs.Sizes.{key_size}
 use Rattle.records.specs.Layout.{report_kind, report_size, is_report}
 use Rattle.checks.specs.Refusals.{or_else, need, unless_refused, verdict_of}
 use Rattle.checks.specs.declared.refusal.Refusal.{Refusal}
-use Rattle.checks.specs.Flaws.{is_flawed, report_flaw}
+use Rattle.checks.specs.Flaws.{report_flaw}
 use Rattle.end_records.specs.Slots.{slots}
 use Rattle.checks.specs.BufferRefusals.{slots_refusal}
 use Rattle.end_records.specs.Reports.{decode_report}
 use Rattle.slots.specs.Settle.{report_bytes}
 
--- the model's refusal number, at place 0
+-- the refusal with the model's number: 9, 10 or 11, which are all that it tells of a report
 abbrev pub numbered : Option ℕ → Option Refusal
 numbered None = None
-numbered (Some number) = Some (refusal number 0)
+numbered (Some n) = Some (cond (eqb n number.no_such_slot) NoSuchSlot (cond (eqb n number.sequence_zero) SequenceZero ReportAhead))
 
 -- message 1, 8, 3
 unfoldable pub bytes_refusal : List ℕ → Option Refusal
 bytes_refusal message =
     need (eqb (length message) report_size) Ragged
-    (need (eqb (get_or message report_kind 0) is_report) WrongKind (need (not (is_flawed (report_flaw message))) (BadRecord 0) None))
+    (need (eqb (get_or message report_kind 0) is_report) WrongKind (need (not (is_some (report_flaw message))) (BadRecord 0) None))
 
 -- keeper 4; message 1, 8, 3; then 9, 10, 11, which the model tells of the slots and the report that the bytes mean
 unfoldable pub report_refused : List ℕ → List ℕ → Option Refusal

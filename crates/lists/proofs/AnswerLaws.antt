@@ -6,6 +6,7 @@ use Rattle.std.specs.Prelude.{None, Some, Result, Ok, Err}
 use lib.ListN.{length, take}
 use lib.Seq.{length-take-le}
 use borrow.Author.Tests.{lt-ltb, le-ltb}
+use Rattle.checks.specs.declared.refusal.Refusal.{Refusal}
 use Rattle.checks.specs.declared.refusal.Refusal.TheVariants.{ShortOutput}
 use Rattle.buffers.specs.Parts.{splice}
 use Rattle.lists.specs.Numbers.{Lists}

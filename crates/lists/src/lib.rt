@@ -7,8 +7,7 @@ ghost use Rattle.records.specs.Layout.{most_rules};
 ghost use Rattle.lists.specs.Written.{number_bytes};
 ghost use Rattle.lists.specs.Answers.{Answered};
 
-use checks::refusal;
-use checks::refusal::CountAnswer;
+use checks::refusal::Refusal;
 use records::layout;
 
 // The first `count` items are the list; what the others hold does not matter.
@@ -33,13 +32,13 @@ fn put_numbers(list: Numbers, out: &mut [u8])
 }
 
 // Writes the list to the start of `out`: refusal 5 where `out` is shorter than two bytes a number; a refusal writes nothing.
-pub fn list_answer(list: Numbers, out: &mut [u8]) -> CountAnswer
+pub fn list_answer(list: Numbers, out: &mut [u8]) -> Result<usize, Refusal>
     requires { (list.count ≤ most_rules) × (list.count ≤ length list.items) }
     ensures { Answered (take list.count list.items) out.old result out.new }
 {
     if out.len() < 2 * list.count {
-        return CountAnswer::Refused(refusal::at_no_place(refusal::SHORT_OUTPUT));
+        return Err(Refusal::ShortOutput);
     }
     put_numbers(list, out);
-    CountAnswer::Count(list.count)
+    Ok(list.count)
 }

@@ -13,6 +13,7 @@ use Rattle.miss.specs.declared.carry.MissAnswer.{MissAnswer}
 use Rattle.miss.specs.Answers.{Missed}
 use Rattle.run.specs.Runs.{RunIs}
 use Rattle.run.specs.declared.Ran.{Ran}
+use Rattle.checks.specs.declared.refusal.Refusal.{Refusal}
 use Rattle.promises.specs.Calls.{State, cleared_ends, Call, Sequence, Throughout}
 
 -- whatever its arguments, each call has an answer and leaves buffers as its function promises

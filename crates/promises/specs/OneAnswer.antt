@@ -34,6 +34,7 @@ use Rattle.wunnagresk.specs.TableCalls.{LookupCall, WriteCall}
 use Rattle.wunnagresk.specs.KeeperCalls.{MissCall, ReportCall, OpenCall}
 use Rattle.wunnagresk.specs.PolicyCalls.{CoverCall}
 use Rattle.c_answers.specs.IsolateCalls.{IsolateCall}
+use Rattle.checks.specs.declared.refusal.Refusal.{Refusal}
 use Rattle.c_answers.specs.RunCalls.{RunCall, result_for_c}
 
 -- a buffer's bytes

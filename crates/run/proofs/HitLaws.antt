@@ -25,6 +25,7 @@ use Rattle.table.specs.declared.LookupAnswer.TheVariants.{Hit}
 use Rattle.table.proofs.ModelLaws.{good-lookup, looked-up}
 use Rattle.keeper.specs.Reports.{Reported}
 use Rattle.run.proofs.SendLaws.{same_ends, told-fits, reported-to}
+use Rattle.checks.specs.declared.refusal.Refusal.{Refusal}
 use Rattle.run.specs.Packets.{FinePacket, PacketDone, missed_outcome, missed_ends, packet_outcome, packet_ends}
 
 module _ {policy key table keeper out table' out' : List ℕ} {r : LookupAnswer}

@@ -23,6 +23,7 @@ use Rattle.run.specs.Send.{ends_in}
 use Rattle.run.proofs.RunLaws.{run-whole}
 use Rattle.run_laws.specs.Calls.{PastRun, Made, left, InTurn, last_of, told_in, TotalsPromise}
 use Rattle.run_laws.specs.Calls.{Part, past_run, AcceptedPart, Successive, last_part, joined, told_bytes, CutPromise}
+use Rattle.checks.specs.declared.refusal.Refusal.{Refusal}
 use Rattle.run_laws.proofs.AcceptedRuns.{AcceptedRun, accepted-run, refused-run, told-bytes, told-totals}
 
 -- ---- totals

@@ -1,7 +1,7 @@
 -- What a lookup comes to, from the slot that is found. Assumes nothing.
-use mathlib.Core.Path.{◌≡◌, refl, ap, ◌∙◌}
+use mathlib.Core.Path.{◌≡◌, refl, sym, ap, ◌∙◌}
 use mathlib.Core.List.{List}
-use Rattle.std.specs.Prelude.{Option, None, Some}
+use Rattle.std.specs.Prelude.{Option, None, Some, Ok, Err}
 use Prim.Native.Nat.{ℕ, ◌≤◌, ◌<◌}
 use native.Mathlib.Omega.{arith}
 use lib.Dec.{leb}
@@ -13,7 +13,7 @@ use Rattle.ternary.specs.Sizes.{key_size, positions}
 use Rattle.buffers.specs.Parts.{splice}
 use Rattle.records.specs.Layout.{report_size, most_slots}
 use Rattle.checks.specs.declared.refusal.Refusal.{Refusal}
-use Rattle.checks.proofs.RefusalLaws.{none_first, need-none}
+use Rattle.checks.proofs.RefusalLaws.{none_first, need-none, answer-refused, answer-given}
 use Rattle.checks.specs.Keys.{key_refusal}
 use Rattle.end_records.specs.Slots.{slots}
 use Rattle.records.specs.SlotBuffers.{slot_count, WholeSlots}
@@ -23,27 +23,10 @@ use Rattle.checks.proofs.FitLaws.{slots-accepted}
 use Rattle.slots.proofs.FindLaws.{held_below, held-few}
 use Rattle.slots.specs.Hits.{Counted}
 use Rattle.end_records.specs.Reports.{encode_report}
-use Rattle.table.specs.Lookups.{short_for_report, lookup_refusal, found_of, find_answer}
+use Rattle.table.specs.Lookups.{short_for_report, lookup_refusal, find_answer}
 use Rattle.table.specs.Lookups.{lookup_answer, slots_after_lookup, table_after_lookup, out_after_lookup, LookedUp}
-use Rattle.table.specs.declared.lookups.Found.TheVariants.{Refused as FoundRefused, Miss as FoundMiss, Slot as FoundSlot}
-use Rattle.table.specs.declared.LookupAnswer.TheVariants.{Refused, Miss, Hit}
 
 -- ---- what is found
-
-of-refused : (o : Option Refusal) (f : Option ℕ) (r : Refusal) → FoundRefused r ≡ found_of o f → o ≡ Some r
-of-refused (Some x) f r e = cc
-of-refused None None r e = let z : ◌≡◌ {A = ℕ} 0 1 = cc in absurd (omega arith)
-of-refused None (Some i) r e = let z : ◌≡◌ {A = ℕ} 0 1 = cc in absurd (omega arith)
-
-of-miss : (o : Option Refusal) (f : Option ℕ) → FoundMiss ≡ found_of o f → (o ≡ None) × (f ≡ None)
-of-miss (Some x) f e = let z : ◌≡◌ {A = ℕ} 0 1 = cc in absurd (omega arith)
-of-miss None None e = (refl, refl)
-of-miss None (Some i) e = let z : ◌≡◌ {A = ℕ} 0 1 = cc in absurd (omega arith)
-
-of-slot : (o : Option Refusal) (f : Option ℕ) (i : ℕ) → FoundSlot i ≡ found_of o f → (o ≡ None) × (f ≡ Some i)
-of-slot (Some x) f i e = let z : ◌≡◌ {A = ℕ} 0 1 = cc in absurd (omega arith)
-of-slot None None i e = let z : ◌≡◌ {A = ℕ} 0 1 = cc in absurd (omega arith)
-of-slot None (Some k) i e = (refl, cc)
 
 module _ (key table : List ℕ) (out_len : ℕ) where
   -- a lookup that is not refused has a buffer of whole slots
@@ -59,10 +42,10 @@ module _ (key table : List ℕ) (out_len : ℕ) where
       let h : short_for_report out_len ≡ None = rw f at (none_first (slots_refusal table) _ (none_first (key_refusal key) _ e).1).1 in
       leb-true report_size out_len (need-none (leb report_size out_len) _ None h).0
 
-  module _ (i : ℕ) (e : FoundSlot i ≡ find_answer key table out_len) where
+  module _ (i : ℕ) (e : Ok (Some i) ≡ find_answer key table out_len) where
     hit-there : (lookup_refusal key table out_len ≡ None) × (first_for positions (slots key_size table) key ≡ Some i)
     unfolding find_answer
-    hit-there = of-slot (lookup_refusal key table out_len) (first_for positions (slots key_size table) key) i e
+    hit-there = let h = answer-given (lookup_refusal key table out_len) (first_for positions (slots key_size table) key) e refl in (h.0, sym h.1)
 
     -- the slot that is found is one of the table, and the output has room for its report
     pub hit-below : i < slot_count key_size table
@@ -77,21 +60,21 @@ module _ (key table : List ℕ) (out_len : ℕ) where
 -- ---- the call
 
 module _ (key table out : List ℕ) where
-  pub looked-refused : (r : Refusal) → FoundRefused r ≡ find_answer key table (length out) → LookedUp key table out (Refused r) table out
+  pub looked-refused : (r : Refusal) → Err r ≡ find_answer key table (length out) → LookedUp key table out (Err r) table out
   unfolding find_answer lookup_answer slots_after_lookup table_after_lookup out_after_lookup
   looked-refused r e =
-      let refused = of-refused (lookup_refusal key table (length out)) (first_for positions (slots key_size table) key) r e in
+      let refused = answer-refused (lookup_refusal key table (length out)) (first_for positions (slots key_size table) key) e refl in
       record { answer = rw refused; table-after = rw refused; meaning = rw refused; out-after = rw refused }
 
-  pub looked-missed : FoundMiss ≡ find_answer key table (length out) → LookedUp key table out Miss table out
+  pub looked-missed : Ok None ≡ find_answer key table (length out) → LookedUp key table out (Ok None) table out
   unfolding find_answer lookup_answer slots_after_lookup table_after_lookup out_after_lookup lookup after_lookup
   looked-missed e =
-      let m = of-miss (lookup_refusal key table (length out)) (first_for positions (slots key_size table) key) e in
-      record { answer = rw (m.0, m.1); table-after = rw (m.0, m.1); meaning = rw (m.0, m.1); out-after = rw (m.0, m.1) }
+      let m = answer-given (lookup_refusal key table (length out)) (first_for positions (slots key_size table) key) e refl in
+      record { answer = rw (m.0, ← m.1); table-after = rw (m.0, ← m.1); meaning = rw (m.0, ← m.1); out-after = rw (m.0, ← m.1) }
 
-  pub looked-hit : (i : ℕ) (x : Slot) (table' out' : List ℕ) → FoundSlot i ≡ find_answer key table (length out) → Counted table i x table'
+  pub looked-hit : (i : ℕ) (x : Slot) (table' out' : List ℕ) → Ok (Some i) ≡ find_answer key table (length out) → Counted table i x table'
       → out' ≡ splice 0 (encode_report (report_for i x)) out
-      → LookedUp key table out (Hit i x.rule x.action) table' out'
+      → LookedUp key table out (Ok (Some (record { slot = i; rule = x.rule; action = x.action }))) table' out'
   unfolding lookup_answer slots_after_lookup table_after_lookup out_after_lookup lookup after_lookup
   looked-hit i x table' out' e c t =
       let m = hit-there key table (length out) i e in

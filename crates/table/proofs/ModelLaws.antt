@@ -3,7 +3,7 @@
 use mathlib.Core.Path.{◌≡◌, refl}
 use mathlib.Core.Bool.{false}
 use mathlib.Core.List.{List}
-use Rattle.std.specs.Prelude.{Option, None, Some, Result, Ok, ⊤}
+use Rattle.std.specs.Prelude.{Option, None, Some, Result, Ok, ⊤, option_map}
 use mathlib.Core.Logic.{◌↔◌}
 use Prim.Native.Nat.{ℕ, ◌≤◌}
 use native.Mathlib.Omega.{arith}
@@ -15,6 +15,7 @@ use Rattle.ends.proofs.Refusals.{write-taken}
 use Rattle.ternary.specs.Sizes.{key_size, positions}
 use Rattle.buffers.specs.Parts.{splice}
 use Rattle.records.specs.Layout.{write_kind, is_write, write_size, report_size}
+use Rattle.checks.specs.declared.refusal.Refusal.{Refusal}
 use Rattle.checks.specs.Flaws.{Zeros, write_spares}
 use Rattle.checks.proofs.CleanLaws.{write-clean}
 use Rattle.checks.proofs.RefusalLaws.{none_first, key-accepted}
@@ -25,10 +26,10 @@ use Rattle.end_records.proofs.SlotLaws.{slot-count}
 use Rattle.checks.proofs.FitLaws.{slots-accepted}
 use Rattle.end_records.specs.Writes.{decode_write}
 use Rattle.end_records.specs.Reports.{encode_report}
-use Rattle.table.specs.Lookups.{hit_refusal, lookup_refusal, GoodLookup, lookup_answer_of, told_of}
+use Rattle.table.specs.Lookups.{hit_refusal, lookup_refusal, GoodLookup, hit_told, told_of}
 use Rattle.table.specs.Lookups.{lookup_answer, slots_after_lookup, out_after_lookup, LookedUp}
 use Rattle.table.specs.Writes.{write_call_refusal, GoodWrite, slots_after_write, out_after_write, Received}
-use Rattle.table.specs.declared.LookupAnswer.{LookupAnswer}
+use Rattle.table.specs.declared.Hit.{Hit}
 use Rattle.table.proofs.LookupLaws.{lookup-whole, hit-long}
 use Rattle.table.proofs.WriteLaws.{good-call}
 
@@ -94,9 +95,9 @@ good-lookup key table out_len = (
 
 -- ---- what a call that is not refused is in the model
 
-module _ {key table out table' out' : List ℕ} {r : LookupAnswer} (is : LookedUp key table out r table' out') where
+module _ {key table out table' out' : List ℕ} {r : Result (Option Hit) Refusal} (is : LookedUp key table out r table' out') where
   pub looked-up : lookup_refusal key table (length out) ≡ None
-      → (r ≡ lookup_answer_of None (lookup positions (slots key_size table) key))
+      → (r ≡ Ok (option_map hit_told (lookup positions (slots key_size table) key)))
       × (slots key_size table' ≡ after_lookup positions (slots key_size table) key)
       × (out' ≡ told_of (lookup positions (slots key_size table) key) out)
   unfolding lookup_answer slots_after_lookup out_after_lookup

@@ -2,7 +2,7 @@
 use mathlib.Core.Path.{◌≡◌, refl}
 use mathlib.Core.Bool.{not}
 use mathlib.Core.List.{List}
-use Rattle.std.specs.Prelude.{None, Ok, Err}
+use Rattle.std.specs.Prelude.{None, Ok, Err, is_some}
 use mathlib.Core.Logic.{◌↔◌}
 use Prim.Native.Nat.{ℕ}
 use native.Mathlib.Omega.{arith}
@@ -15,9 +15,9 @@ use Rattle.model.proofs.Cases.{not-true}
 use Rattle.ternary.specs.Sizes.{key_size}
 use Rattle.buffers.specs.Parts.{splice}
 use Rattle.records.specs.Layout.{write_kind, is_write, write_size, report_size}
-use Rattle.checks.specs.Flaws.{is_flawed, write_flaw}
+use Rattle.checks.specs.Flaws.{write_flaw}
 use Rattle.checks.specs.declared.refusal.Refusal.{Refusal}
-use Rattle.checks.proofs.CleanLaws.{clean_of}
+use Rattle.checks.proofs.FlawedLaws.{none-of}
 use Rattle.checks.proofs.RefusalLaws.{none_first, need-none, verdict-refused, verdict-fine}
 use Rattle.records.specs.SlotBuffers.{slot_count}
 use Rattle.checks.specs.BufferRefusals.{slots_refusal}
@@ -29,8 +29,6 @@ use Rattle.table.specs.Writes.{write_message_refusal, write_call_refusal, GoodWr
 use Rattle.table.specs.Writes.{table_after_write, out_after_write, Received}
 use Rattle.checks.specs.Refusals.{verdict_of}
 
--- ---- what the answer says
-
 -- ---- which writes are not refused
 
 module _ (m : List ℕ) (count : ℕ) where
@@ -40,14 +38,14 @@ module _ (m : List ℕ) (count : ℕ) where
     λ e.
         let long = need-none (eqb (length m) (write_size key_size)) _ _ e in
         let kind = need-none (eqb (get_or m write_kind 0) is_write) _ _ long.1 in
-        let clean = need-none (not (is_flawed (write_flaw key_size m))) _ _ kind.1 in
+        let clean = need-none (not (is_some (write_flaw key_size m))) _ _ kind.1 in
         let there = need-none (ltb (decode_write key_size m).slot count) _ _ clean.1 in
         let nonzero = need-none (not (eqb (decode_write key_size m).sequence 0)) _ _ there.1 in
         let live = eqb-false (decode_write key_size m).sequence 0 (not-true nonzero.0) in
         record {
           long = eqb-true _ _ long.0;
           kind = eqb-true _ _ kind.0;
-          clean = clean_of (write_flaw key_size m) (not-true clean.0);
+          clean = none-of (write_flaw key_size m) (not-true clean.0);
           slot-there = ltb-true _ _ there.0;
           live = omega arith;
         },

@@ -1,22 +1,19 @@
 -- The table looks a key up: the answer, the table's bytes after it, and the output's. Assumes nothing.
-use Rattle.std.specs.Prelude.{◌≡◌, List, ℕ, ◌≤◌, leb, length, Option, None, Some}
+use Rattle.std.specs.Prelude.{◌≡◌, List, ℕ, ◌≤◌, leb, length, Option, None, Some, Result, option_map}
 use Rattle.ends.specs.Records.{Slot, slot_at}
 use Rattle.checks.specs.declared.refusal.Refusal.TheVariants.{ShortOutput}
-use Rattle.ends.specs.Ends.{Hit, counted, first_for, lookup, after_lookup}
+use Rattle.ends.specs.Ends.{Hit as ModelHit, counted, first_for, lookup, after_lookup}
+use Rattle.table.specs.declared.Hit.{Hit}
 use Rattle.ternary.specs.Sizes.{key_size, positions}
 use Rattle.buffers.specs.Parts.{splice}
 use Rattle.records.specs.Layout.{report_size}
-use Rattle.checks.specs.Refusals.{or_else, need, unless_refused}
+use Rattle.checks.specs.Refusals.{or_else, need, unless_refused, answer_of}
 use Rattle.checks.specs.declared.refusal.Refusal.{Refusal}
 use Rattle.checks.specs.Keys.{key_refusal}
 use Rattle.end_records.specs.Slots.{slots, put_slot}
 use Rattle.checks.specs.BufferRefusals.{slots_refusal}
 use Rattle.records.specs.SlotBuffers.{WholeSlots}
 use Rattle.end_records.specs.Reports.{encode_report}
-use Rattle.table.specs.declared.lookups.Found.{Found}
-use Rattle.table.specs.declared.lookups.Found.TheVariants.{Refused as FoundRefused, Miss as FoundMiss, Slot as FoundSlot}
-use Rattle.table.specs.declared.LookupAnswer.{LookupAnswer}
-use Rattle.table.specs.declared.LookupAnswer.TheVariants.{Refused, Miss, Hit as HitAt}
 
 -- 5: an output of out_len bytes is shorter than a report
 abbrev pub short_for_report : ℕ → Option Refusal
@@ -40,24 +37,19 @@ pub record GoodLookup (key table : List ℕ) (out_len : ℕ) : Type 0 where
 
 -- ---- the slot that is found
 
-abbrev pub found_of : Option Refusal → Option ℕ → Found
-found_of (Some r) found = FoundRefused r
-found_of None None = FoundMiss
-found_of None (Some i) = FoundSlot i
-
-unfoldable pub find_answer : List ℕ → List ℕ → ℕ → Found
-find_answer key table out_len = found_of (lookup_refusal key table out_len) (first_for positions (slots key_size table) key)
+unfoldable pub find_answer : List ℕ → List ℕ → ℕ → Result (Option ℕ) Refusal
+find_answer key table out_len = answer_of (lookup_refusal key table out_len) (first_for positions (slots key_size table) key)
 
 -- ---- the call
 
--- the refusal, or what the table answers
-abbrev pub lookup_answer_of : Option Refusal → Option Hit → LookupAnswer
-lookup_answer_of (Some r) hit = Refused r
-lookup_answer_of None None = Miss
-lookup_answer_of None (Some h) = HitAt h.slot h.rule h.action
+-- what a hit tells
+abbrev pub hit_told : ModelHit → Hit
+hit_told h = record { slot = h.slot; rule = h.rule; action = h.action }
 
-unfoldable pub lookup_answer : List ℕ → List ℕ → ℕ → LookupAnswer
-lookup_answer key table out_len = lookup_answer_of (lookup_refusal key table out_len) (lookup positions (slots key_size table) key)
+-- the refusal, or what the table answers
+unfoldable pub lookup_answer : List ℕ → List ℕ → ℕ → Result (Option Hit) Refusal
+lookup_answer key table out_len =
+    answer_of (lookup_refusal key table out_len) (option_map hit_told (lookup positions (slots key_size table) key))
 
 -- the slots after it: a hit is counted; a miss and a refusal change none
 unfoldable pub slots_after_lookup : List ℕ → List ℕ → ℕ → List Slot
@@ -74,7 +66,7 @@ table_after_lookup key table out_len =
     unless_refused (lookup_refusal key table out_len) table (counted_bytes table (first_for positions (slots key_size table) key))
 
 -- the report of a hit at the start of the output; its other bytes stay
-abbrev pub told_of : Option Hit → List ℕ → List ℕ
+abbrev pub told_of : Option ModelHit → List ℕ → List ℕ
 told_of None out = out
 told_of (Some h) out = splice 0 (encode_report h.report) out
 
@@ -83,7 +75,7 @@ out_after_lookup key table out =
     unless_refused (lookup_refusal key table (length out)) out (told_of (lookup positions (slots key_size table) key) out)
 
 -- what a lookup is: its answer r, and the buffers after it
-pub record LookedUp (key table out : List ℕ) (r : LookupAnswer) (table' out' : List ℕ) : Type 0 where
+pub record LookedUp (key table out : List ℕ) (r : Result (Option Hit) Refusal) (table' out' : List ℕ) : Type 0 where
   pub answer : r ≡ lookup_answer key table (length out)
   pub table-after : table' ≡ table_after_lookup key table (length out)
   pub meaning : slots key_size table' ≡ slots_after_lookup key table (length out)

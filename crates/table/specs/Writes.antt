@@ -1,5 +1,5 @@
 -- The table receives a write: the answer, the table's bytes after it, and the output's. Assumes nothing.
-use Rattle.std.specs.Prelude.{◌≡◌, not, List, ℕ, ◌≤◌, ◌<◌, ltb, eqb, length, get_or, Option, None, Result, ⊤}
+use Rattle.std.specs.Prelude.{◌≡◌, not, List, ℕ, ◌≤◌, ◌<◌, ltb, eqb, length, get_or, Option, None, Result, ⊤, is_some}
 use Rattle.ends.specs.Records.{Slot}
 use Rattle.checks.specs.declared.refusal.Refusal.TheVariants.{BadRecord, NoSuchSlot, Ragged, SequenceZero, WrongKind}
 use Rattle.ends.specs.Ends.{after_write, write_report}
@@ -7,9 +7,8 @@ use Rattle.ternary.specs.Sizes.{key_size}
 use Rattle.buffers.specs.Parts.{splice}
 use Rattle.records.specs.Layout.{write_kind, is_write, write_size, report_size}
 use Rattle.checks.specs.Refusals.{or_else, need, unless_refused, verdict_of}
-use Rattle.checks.specs.Flaws.{is_flawed, write_flaw}
+use Rattle.checks.specs.Flaws.{write_flaw}
 use Rattle.checks.specs.declared.refusal.Refusal.{Refusal}
-use Rattle.checks.specs.declared.flaw.Flaw.TheVariants.{Clean}
 use Rattle.end_records.specs.Slots.{slots}
 use Rattle.records.specs.SlotBuffers.{slot_count, WholeSlots}
 use Rattle.checks.specs.BufferRefusals.{slots_refusal}
@@ -23,7 +22,7 @@ unfoldable pub write_message_refusal : List ℕ → ℕ → Option Refusal
 write_message_refusal m count =
     need (eqb (length m) (write_size key_size)) Ragged
     (need (eqb (get_or m write_kind 0) is_write) WrongKind
-    (need (not (is_flawed (write_flaw key_size m))) (BadRecord 0)
+    (need (not (is_some (write_flaw key_size m))) (BadRecord 0)
     (need (ltb (decode_write key_size m).slot count) NoSuchSlot
     (need (not (eqb (decode_write key_size m).sequence 0)) SequenceZero None))))
 
@@ -58,7 +57,7 @@ pub record Received (table m out : List ℕ) (r : Result ⊤ Refusal) (table' ou
 pub record GoodWrite (m : List ℕ) (count : ℕ) : Type 0 where
   pub long : length m ≡ write_size key_size
   pub kind : get_or m write_kind 0 ≡ is_write
-  pub clean : write_flaw key_size m ≡ Clean
+  pub clean : write_flaw key_size m ≡ None
   pub slot-there : (decode_write key_size m).slot < count
   pub live : 0 < (decode_write key_size m).sequence
 

@@ -7,57 +7,58 @@ pub mod writes;
 ghost use Rattle.table.specs.Lookups.{LookedUp};
 ghost use Rattle.table.specs.Writes.{Received};
 
-use crate::lookups::{Found, find};
-use crate::writes::write_answer;
-use checks::refusal::{Refusal, Verdict};
+use crate::lookups::find;
+use crate::writes::check_write;
+use checks::refusal::Refusal;
+use end_records::report::{Report, put_report};
 
-// A refusal, a miss, or the slot, rule and action of a hit.
-#[derive(Clone, Copy)]
-pub enum LookupAnswer {
-    Refused(Refusal),
-    Miss,
-    Hit { slot: u16, rule: u16, action: u16 },
+// A hit: the lowest slot that takes the key, with its rule and its action.
+#[derive(Clone, Copy, Debug, PartialEq, Eq)]
+pub struct Hit {
+    pub slot: u16,
+    pub rule: u16,
+    pub action: u16,
 }
 
 // Looks a key up: a hit is counted, and its report goes to the start of `out`. A miss and a refusal (1 of the key, 4, 5) change nothing.
-pub fn lookup(key: &[u8], table: &mut [u8], out: &mut [u8]) -> LookupAnswer
+pub fn lookup(key: &[u8], table: &mut [u8], out: &mut [u8]) -> Result<Option<Hit>, Refusal>
     ensures { LookedUp key.now table.old out.old result table.new out.new }
 {
-    match find(key, table, out.len()) {
-        Found::Refused(refusal) => LookupAnswer::Refused(refusal),
-        Found::Miss => LookupAnswer::Miss,
-        Found::Slot(i) => {
-            let x = slots::hits::count_hit(table, i);
-            let report = end_records::report::Report {
-                slot: i as u16,
-                sequence: x.sequence,
-                hits: x.hits,
-            };
-            end_records::report::put_report(out, report);
-            LookupAnswer::Hit {
-                slot: i as u16,
-                rule: x.rule,
-                action: x.action,
-            }
-        }
-    }
+    let Some(i) = find(key, table, out.len())? else {
+        return Ok(None);
+    };
+    let x = slots::hits::count_hit(table, i);
+    let slot = i as u16;
+    put_report(
+        out,
+        Report {
+            slot,
+            sequence: x.sequence,
+            hits: x.hits,
+        },
+    );
+    Ok(Some(Hit {
+        slot,
+        rule: x.rule,
+        action: x.action,
+    }))
 }
 
 // Receives a write: a newer one replaces its slot, and the report of the slot as it then is goes to the start of `out`. A refusal changes
 // nothing.
-pub fn write(table: &mut [u8], message: &[u8], out: &mut [u8]) -> Verdict
+pub fn write(table: &mut [u8], message: &[u8], out: &mut [u8]) -> Result<(), Refusal>
     ensures { Received table.old message.now out.old result table.new out.new }
 {
-    if let Verdict::Refused(refusal) = write_answer(table, message, out.len()) {
-        return Verdict::Refused(refusal);
-    }
+    check_write(table, message, out.len())?;
     let w = end_records::write::write_of(message);
     let stored = slots::entry::store_newer(table, w);
-    let report = end_records::report::Report {
-        slot: w.slot,
-        sequence: stored.sequence,
-        hits: stored.hits,
-    };
-    end_records::report::put_report(out, report);
-    Verdict::Fine
+    put_report(
+        out,
+        Report {
+            slot: w.slot,
+            sequence: stored.sequence,
+            hits: stored.hits,
+        },
+    );
+    Ok(())
 }

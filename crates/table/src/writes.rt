@@ -3,44 +3,41 @@ ghost use Rattle.std.specs.Prelude.{◌≡◌};
 ghost use Rattle.checks.specs.Refusals.{verdict_of};
 ghost use Rattle.table.specs.Writes.{write_message_refusal, write_call_refusal};
 
-use checks::refusal;
-use checks::refusal::{Verdict, refused};
+use checks::refusal::Refusal;
 use records::layout;
 
 // Whether a write is one to a table of `count` slots: refusals 1, 8, 3, 9 and 10. It changes nothing.
-fn message_answer(message: &[u8], count: usize) -> Verdict
+fn check_message(message: &[u8], count: usize) -> Result<(), Refusal>
     ensures { result ≡ verdict_of (write_message_refusal message.now count) }
 {
     if message.len() != layout::WRITE_SIZE {
-        return refused(refusal::RAGGED);
+        return Err(Refusal::Ragged);
     }
     if message[layout::WRITE_KIND] != layout::IS_WRITE {
-        return refused(refusal::WRONG_KIND);
+        return Err(Refusal::WrongKind);
     }
-    let checks::flaw::Flaw::Clean = checks::flaw::write_flaw(message) else {
-        return refused(refusal::BAD_RECORD);
-    };
+    if checks::flaw::write_flaw(message).is_some() {
+        return Err(Refusal::BadRecord { place: 0 });
+    }
     if count <= buffers::be16(message, layout::WRITE_SLOT) as usize {
-        return refused(refusal::NO_SUCH_SLOT);
+        return Err(Refusal::NoSuchSlot);
     }
     if buffers::be32(message, layout::WRITE_SEQUENCE) == 0 {
-        return refused(refusal::SEQUENCE_ZERO);
+        return Err(Refusal::SequenceZero);
     }
-    Verdict::Fine
+    Ok(())
 }
 
 // Whether a write is taken, with an output of `out_len` bytes: refusal 4 of the table, those of the message, then 5. It changes nothing.
-pub(crate) fn write_answer(table: &[u8], message: &[u8], out_len: usize) -> Verdict
+pub(crate) fn check_write(table: &[u8], message: &[u8], out_len: usize) -> Result<(), Refusal>
     ensures { result ≡ verdict_of (write_call_refusal table.now message.now out_len) }
 {
     if !checks::buffer::slots_fit(table) {
-        return refused(refusal::BAD_SLOTS);
+        return Err(Refusal::BadSlots);
     }
-    if let Verdict::Refused(refusal) = message_answer(message, table.len() / layout::SLOT_SIZE) {
-        return Verdict::Refused(refusal);
-    }
+    check_message(message, table.len() / layout::SLOT_SIZE)?;
     if out_len < layout::REPORT_SIZE {
-        return refused(refusal::SHORT_OUTPUT);
+        return Err(Refusal::ShortOutput);
     }
-    Verdict::Fine
+    Ok(())
 }

@@ -1,28 +1,30 @@
 -- `cover::cover` meets its contract: at each way out, the tests that led there say which answer it is. Assumes nothing.
 use mathlib.Core.Path.{refl}
 use native.Mathlib.Omega.{arith}
+use Rattle.std.proofs.lemmas.Result.{err_from_is_err_and}
 use Rattle.cover.proofs.AnswerLaws.{taken_of, cover-few, refused-policy, refused-number, covered-list}
 use Rattle.cover.proofs.cover.Goals as goal
 
-pub returns-then-n-number : goal.returns-then-n-number
-returns-then-n-number c =
-    rw c.at_no_place.ensures (refused-number _ _ _ (taken_of c.in-Count.ensures refl) (omega (arith, c.if-n-number.true)))
+pub returns-in_err-count : goal.returns-in_err-count
+returns-in_err-count c =
+    let p = err_from_is_err_and c.from_residual.result c.from_residual.ensures.1 in
+    rw (p.1, p.2) (refused-policy _ _ _ c.in_err-count.ensures refl)
+
+pub returns-then-number-count : goal.returns-then-number-count
+returns-then-number-count c = refused-number _ _ _ (taken_of c.in_ok-count.ensures refl) (omega (arith, c.if-number-count.true))
 
 pub dependents_of-list-requires : goal.dependents_of-list-requires
 dependents_of-list-requires c =
-    let is = taken_of c.in-Count.ensures refl in
+    let is = taken_of c.in_ok-count.ensures refl in
     (omega (arith, is.counted), is.few)
 
 pub list_answer-requires : goal.list_answer-requires
 list_answer-requires c =
-    let is = taken_of c.in-Count.ensures refl in
+    let is = taken_of c.in_ok-count.ensures refl in
     let list = c.dependents_of-list.ensures in
     (omega (arith, cover-few _ _ list, is.few), list.few)
 
-pub returns-in-Refused : goal.returns-in-Refused
-returns-in-Refused c = refused-policy _ _ _ c.in-Refused.ensures refl
-
-pub returns-else-n-number : goal.returns-else-n-number
-returns-else-n-number c =
-    covered-list _ _ _ (taken_of c.in-Count.ensures refl) c.if-n-number.false c.dependents_of-list.ensures
+pub returns : goal.returns
+returns c =
+    covered-list _ _ _ (taken_of c.in_ok-count.ensures refl) (omega (arith, c.if-number-count.false)) c.dependents_of-list.ensures
     c.list_answer.ensures

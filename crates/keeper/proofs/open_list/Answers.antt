@@ -4,7 +4,7 @@ use Rattle.keeper.proofs.OpenLaws.{list-few, few-slots, refused-slots, opened-li
 use Rattle.keeper.proofs.open_list.Goals as goal
 
 pub returns-then-not-slots_fit : goal.returns-then-not-slots_fit
-returns-then-not-slots_fit c = rw c.at_no_place.ensures (refused-slots _ _ c.slots_fit.ensures c.if-not-slots_fit.true)
+returns-then-not-slots_fit c = refused-slots _ _ c.slots_fit.ensures c.if-not-slots_fit.true
 
 pub open_slots-list-requires : goal.open_slots-list-requires
 open_slots-list-requires c = few-slots _ c.slots_fit.ensures c.if-not-slots_fit.false

@@ -5,7 +5,7 @@ use Rattle.lists.proofs.list_answer.Goals as goal
 
 pub returns-then-out-list : goal.returns-then-out-list
 returns-then-out-list c =
-    rw c.at_no_place.ensures (answered-short _ _ _ c.requires.1 (omega (arith, c.if-out-list.true)))
+    answered-short _ _ _ c.requires.1 (omega (arith, c.if-out-list.true))
 
 pub put_numbers-requires : goal.put_numbers-requires
 put_numbers-requires c = let p = c.requires in (p.0, p.1, c.if-out-list.false)

@@ -9,48 +9,45 @@ use borrow.Author.Tests.{eq-eqb, ne_eqb, le-leb, lt-leb}
 use Rattle.ternary.specs.Sizes.{key_size}
 use Rattle.checks.specs.Keys.{key_refusal}
 use Rattle.checks.specs.BufferRefusals.{slots_refusal}
-use Rattle.slots.proofs.FindLaws.{found_nowhere, found_at}
 use Rattle.table.specs.Lookups.{lookup_refusal, find_answer}
 use Rattle.table.proofs.lookups.find.Goals as goal
 
 pub returns-then-key-ne-KEY_SIZE : goal.returns-then-key-ne-KEY_SIZE
 unfolding find_answer lookup_refusal key_refusal
-returns-then-key-ne-KEY_SIZE c = rw (c.at_no_place.ensures, ne_eqb _ _ c.if-key-ne-KEY_SIZE.true)
+returns-then-key-ne-KEY_SIZE c = rw (ne_eqb _ _ c.if-key-ne-KEY_SIZE.true)
 
 pub returns-then-not-slots_fit : goal.returns-then-not-slots_fit
 unfolding find_answer lookup_refusal key_refusal slots_refusal
-returns-then-not-slots_fit c =
-    rw (c.at_no_place-then-not-slots_fit.ensures, eq-eqb _ _ c.if-key-ne-KEY_SIZE.false, ← c.if-not-slots_fit.ensures)
+returns-then-not-slots_fit c = rw (eq-eqb _ _ c.if-key-ne-KEY_SIZE.false, ← c.if-not-slots_fit.ensures)
 
 -- the part of the key that is lent is all of it
 all : (key : List ℕ) → length key ≡ key_size → take key_size key ≡ key
 all key long = take_all key_size key (omega arith)
 
-pub returns-in-Nowhere : goal.returns-in-Nowhere
+pub returns-in_default : goal.returns-in_default
 unfolding find_answer lookup_refusal key_refusal slots_refusal
-returns-in-Nowhere c =
+returns-in_default c =
     let long = c.if-key-ne-KEY_SIZE.false in
-    rw (eq-eqb _ _ long, ← c.if-not-slots_fit.ensures, found_nowhere _ (rw (all _ long) at c.in-Nowhere.ensures))
+    rw (eq-eqb _ _ long, ← c.if-not-slots_fit.ensures, ← (rw (all _ long) at c.in_default.ensures))
 
 pub returns-then-out_len-lt-REPORT_SIZE : goal.returns-then-out_len-lt-REPORT_SIZE
 unfolding find_answer lookup_refusal key_refusal slots_refusal
 returns-then-out_len-lt-REPORT_SIZE c =
     let long = c.if-key-ne-KEY_SIZE.false in
     rw (
-      c.at_no_place-then-out_len-lt-REPORT_SIZE.ensures,
       eq-eqb _ _ long,
       ← c.if-not-slots_fit.ensures,
-      found_at _ _ (rw (all _ long) at c.in-At.ensures),
+      ← (rw (all _ long) at c.in-Some.ensures),
       lt-leb _ _ c.if-out_len-lt-REPORT_SIZE.true,
     )
 
-pub returns-else-out_len-lt-REPORT_SIZE : goal.returns-else-out_len-lt-REPORT_SIZE
+pub returns : goal.returns
 unfolding find_answer lookup_refusal key_refusal slots_refusal
-returns-else-out_len-lt-REPORT_SIZE c =
+returns c =
     let long = c.if-key-ne-KEY_SIZE.false in
     rw (
       eq-eqb _ _ long,
       ← c.if-not-slots_fit.ensures,
-      found_at _ _ (rw (all _ long) at c.in-At.ensures),
+      ← (rw (all _ long) at c.in-Some.ensures),
       le-leb _ _ c.if-out_len-lt-REPORT_SIZE.false,
     )
