@@ -5,8 +5,7 @@ use Rattle.policy.specs.declared.BestAnswer.{BestAnswer}
 use Rattle.policy.specs.declared.BestAnswer.TheVariants.{Refused as BestRefused, NoRule, Rule}
 use Rattle.table.specs.declared.LookupAnswer.{LookupAnswer}
 use Rattle.table.specs.declared.LookupAnswer.TheVariants.{Refused as LookupRefused, Miss, Hit}
-use Rattle.miss.specs.declared.carry.MissAnswer.{MissAnswer}
-use Rattle.miss.specs.declared.carry.MissAnswer.TheVariants.{Refused as MissRefused, Outcome}
+use Rattle.records.specs.declared.outcome.Outcome.{Outcome as OutcomeStruct}
 use Rattle.c_answers.specs.declared.structs.WgDone.{WgDone}
 use Rattle.c_answers.specs.declared.structs.WgCount.{WgCount}
 use Rattle.c_answers.specs.declared.structs.WgBestAnswer.{WgBestAnswer}
@@ -37,10 +36,10 @@ lookup_for_c Miss = record { refusal = 0; place = 0; hit = 0; slot = nothing; ru
 lookup_for_c (Hit slot rule action) = record { refusal = 0; place = 0; hit = 1; slot = slot; rule = rule; action = action }
 
 -- the outcome's values, with 65,535 for no rule and no slot
-abbrev pub miss_for_c : MissAnswer → WgOutcome
-miss_for_c (MissRefused r) =
+abbrev pub miss_for_c : Result OutcomeStruct Refusal → WgOutcome
+miss_for_c (Err r) =
     record { refusal = r.number; place = r.place; outcome = 0; action = 0; rule = 0; slot = 0; evicted = 0 }
-miss_for_c (Outcome x) =
+miss_for_c (Ok x) =
     record {
       refusal = 0;
       place = 0;

@@ -19,8 +19,7 @@ use Rattle.checks.proofs.RefusalLaws.{none_first, need-none, key-accepted, verdi
 use Rattle.checks.specs.Keys.{key_refusal}
 use Rattle.policy.specs.Refusals.{policy_refusal}
 use Rattle.policy.specs.Best.{best_found}
-use Rattle.policy.specs.declared.search.BestFound.{BestFound}
-use Rattle.policy.specs.declared.search.BestFound.TheVariants.{NoRule, Rule as Found}
+use Rattle.policy.specs.declared.search.BestRule.{BestRule}
 use Rattle.policy.proofs.CheckLaws.{passed-few}
 use Rattle.policy.proofs.BestLaws.{found_none, found-rule}
 use Rattle.isolate.specs.Ready.{Ready}
@@ -47,24 +46,24 @@ module _ (policy key : List ℕ) (number : ℕ) where
       said-number h = rw (fine, eq-eqb _ _ long, le-ltb _ _ h)
 
       -- the key's best rule, as it was found
-      module _ (low : number < rule_count key_size policy) (b : BestFound) (e : b ≡ best_found policy key) where
-        pub said-none : b ≡ NoRule → says (Err NotBest)
+      module _ (low : number < rule_count key_size policy) (b : Option BestRule) (e : b ≡ best_found policy key) where
+        pub said-none : b ≡ None → says (Err NotBest)
         unfolding isolate_refusal key_refusal
         said-none t =
             let is : best positions (rules key_size policy) key ≡ None = found_none policy key (sym e ∙ t) in
             rw (fine, eq-eqb _ _ long, lt-ltb _ _ low, is)
 
-        pub said-other : (i a : ℕ) → b ≡ Found i a → i ≢ number → says (Err NotBest)
+        pub said-other : (x : BestRule) → b ≡ Some x → x.number ≢ number → says (Err NotBest)
         unfolding isolate_refusal key_refusal
-        said-other i a t h =
-            let is : best positions (rules key_size policy) key ≡ Some i = found-rule policy key i a (sym e ∙ t) in
-            rw (fine, eq-eqb _ _ long, lt-ltb _ _ low, is, ne_eqb i number h)
+        said-other x t h =
+            let is : best positions (rules key_size policy) key ≡ Some x.number = found-rule policy key x (sym e ∙ t) in
+            rw (fine, eq-eqb _ _ long, lt-ltb _ _ low, is, ne_eqb x.number number h)
 
-        pub said-isolated : (i a : ℕ) → b ≡ Found i a → i ≡ number → says (Ok tt)
+        pub said-isolated : (x : BestRule) → b ≡ Some x → x.number ≡ number → says (Ok tt)
         unfolding isolate_refusal key_refusal
-        said-isolated i a t h =
-            let is : best positions (rules key_size policy) key ≡ Some i = found-rule policy key i a (sym e ∙ t) in
-            rw (fine, eq-eqb _ _ long, lt-ltb _ _ low, is, eq-eqb i number h)
+        said-isolated x t h =
+            let is : best positions (rules key_size policy) key ≡ Some x.number = found-rule policy key x (sym e ∙ t) in
+            rw (fine, eq-eqb _ _ long, lt-ltb _ _ low, is, eq-eqb x.number number h)
 
 -- ---- where the rule is isolated
 

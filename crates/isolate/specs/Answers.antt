@@ -1,15 +1,15 @@
 -- What the call that isolates answers. Assumes nothing.
-use Rattle.std.specs.Prelude.{Bool, false, List, ℕ, ltb, eqb, replicate, Option, None, Some, Ok, Err}
+use Rattle.std.specs.Prelude.{Bool, false, List, ℕ, ltb, eqb, Option, None, Some, Ok, Err, Result}
 use Rattle.model.specs.Policy.{best}
 use Rattle.model.specs.Isolate.{Isolated as IsolatedRule, isolate}
 use Rattle.checks.specs.declared.refusal.Refusal.TheVariants.{NoSuchRule, NotBest}
 use Rattle.ternary.specs.Sizes.{key_size, positions}
 use Rattle.records.specs.Rules.{rule_count, rules}
-use Rattle.checks.specs.Refusals.{or_else, need}
+use Rattle.checks.specs.Refusals.{or_else, need, answer_of}
 use Rattle.checks.specs.declared.refusal.Refusal.{Refusal}
 use Rattle.checks.specs.Keys.{key_refusal}
 use Rattle.policy.specs.Refusals.{policy_refusal}
-use Rattle.isolate.specs.declared.IsolateAnswer.{IsolateAnswer}
+use Rattle.isolate.specs.declared.rounds.Isolated.{Isolated}
 
 -- the best rule, if there is one, is this one
 abbrev pub is_best : Option ℕ → ℕ → Bool
@@ -24,18 +24,11 @@ isolate_refusal policy key number =
     (need (ltb number (rule_count key_size policy)) NoSuchRule
     (need (is_best (best positions (rules key_size policy) key) number) NotBest None)))
 
--- a refusal: rows and counts are all 0
-abbrev pub refused_answer : Refusal → IsolateAnswer
-refused_answer r =
-    record { verdict = Err r; value = replicate key_size 0; mask = replicate key_size 0; fixed = 0; wildcards = 0 }
+-- the model's isolated rule, as the code tells it
+abbrev pub isolated_of : IsolatedRule → Isolated
+isolated_of x = record { value = x.value; mask = x.mask; fixed = x.fixed_bits; wildcards = x.wildcards_left }
 
--- the isolated rule
-abbrev pub isolated_answer : IsolatedRule → IsolateAnswer
-isolated_answer x = record { verdict = (Ok tt); value = x.value; mask = x.mask; fixed = x.fixed_bits; wildcards = x.wildcards_left }
-
-abbrev pub isolate_answer_of : Option Refusal → IsolatedRule → IsolateAnswer
-isolate_answer_of (Some r) x = refused_answer r
-isolate_answer_of None x = isolated_answer x
-
-unfoldable pub isolate_answer : List ℕ → List ℕ → ℕ → IsolateAnswer
-isolate_answer policy key number = isolate_answer_of (isolate_refusal policy key number) (isolate positions (rules key_size policy) key number)
+-- the refusal, or the isolated rule
+unfoldable pub isolate_answer : List ℕ → List ℕ → ℕ → Result Isolated Refusal
+isolate_answer policy key number =
+    answer_of (isolate_refusal policy key number) (isolated_of (isolate positions (rules key_size policy) key number))

@@ -23,8 +23,7 @@ use Rattle.policy.proofs.LentLaws.{parts-fine}
 use Rattle.miss.specs.Decision.{policy_view, DecidedAs}
 use Rattle.miss.specs.Decide.{FineMiss}
 use Rattle.miss.specs.Carry.{miss_answer_of, CarriedOut}
-use Rattle.miss.specs.declared.carry.MissAnswer.{MissAnswer}
-use Rattle.miss.specs.declared.carry.MissAnswer.TheVariants.{Refused}
+use Rattle.records.specs.declared.outcome.Outcome.{Outcome as OutcomeStruct}
 use Rattle.miss.proofs.OutcomeLaws.{none-quiet, full-quiet, again-given, entry-given}
 use Rattle.miss.specs.Answers.{short_for_write, miss_refused, out_with, MissedAs, OnMiss, Missed}
 use Rattle.miss.specs.declared.decision.Decision.{Decision}
@@ -33,7 +32,7 @@ use Rattle.miss.specs.declared.decision.Decision.{Decision}
 
 module _ (policy key keeper : List ℕ) where
   pub missed-refused : (out : List ℕ) {r : Refusal} {a : Result ⊤ Refusal} → a ≡ verdict_of (lent_refusal policy key keeper) → a ≡ Err r
-      → Missed policy key keeper out (Refused r) keeper out
+      → Missed policy key keeper out (Err r) keeper out
   unfolding miss_refused
   missed-refused out e t =
       let refused = verdict-refused (lent_refusal policy key keeper) e t in
@@ -46,7 +45,7 @@ module _ (policy key keeper : List ℕ) where
 
 -- ---- so it is the miss's answer
 
-module _ (policy keeper out : List ℕ) {d : Decision} {r : MissAnswer} {keeper' out' : List ℕ} (c : CarriedOut d keeper out r keeper' out') where
+module _ (policy keeper out : List ℕ) {d : Decision} {r : Result OutcomeStruct Refusal} {keeper' out' : List ℕ} (c : CarriedOut d keeper out r keeper' out') where
   abbrev k : List Slot
   k = slots key_size keeper
 
@@ -125,7 +124,7 @@ module _ (policy keeper out : List ℕ) {d : Decision} {r : MissAnswer} {keeper'
       record { answer = answer-quiet g is.outcome; keeper-after = bytes-quiet g; meaning = slots-quiet g; out-after = out-quiet g }
 
 -- a call whose parts are fine is the call without its checks
-pub missed : (policy key keeper out : List ℕ) {a : Result ⊤ Refusal} {r : MissAnswer} {keeper' out' : List ℕ} → a ≡ verdict_of (lent_refusal policy key keeper)
+pub missed : (policy key keeper out : List ℕ) {a : Result ⊤ Refusal} {r : Result OutcomeStruct Refusal} {keeper' out' : List ℕ} → a ≡ verdict_of (lent_refusal policy key keeper)
     → a ≡ (Ok tt) → OnMiss policy key keeper out r keeper' out' → Missed policy key keeper out r keeper' out'
 unfolding miss_refused
 missed policy key keeper out e t is = rw (verdict-fine (lent_refusal policy key keeper) e t) is

@@ -1,4 +1,5 @@
 -- An entry placed, and each way out of carrying a decision out. Assumes nothing.
+use Rattle.std.specs.Prelude.{Ok, Err}
 use mathlib.Core.Path.{◌≡◌, sym, ◌∙◌}
 use mathlib.Core.Bool.{Bool, true, false}
 use mathlib.Core.List.{List}
@@ -19,7 +20,6 @@ use Rattle.records.proofs.OutcomeLaws.{quiet-places, gives-places, again-places}
 use Rattle.slots.specs.Puts.{EntryPut}
 use Rattle.miss.specs.declared.decision.Decision.{Decision}
 use Rattle.miss.specs.Carry.{NewEntryPut, CarriedOut}
-use Rattle.miss.specs.declared.carry.MissAnswer.TheVariants.{Refused, Outcome as Told}
 
 -- ---- the entry of a write
 
@@ -38,7 +38,7 @@ module _ (d : Decision) (keeper out : List ℕ) where
   abbrev o : ℕ
   o = d.outcome.outcome
 
-  pub carried-quiet : {b : Bool} → b ≡ gives_write o → b ≡ false → CarriedOut d keeper out (Told d.outcome) keeper out
+  pub carried-quiet : {b : Bool} → b ≡ gives_write o → b ≡ false → CarriedOut d keeper out (Ok d.outcome) keeper out
   carried-quiet e t =
       let quiet : gives_write o ≡ false = sym e ∙ t in
       record {
@@ -49,13 +49,13 @@ module _ (d : Decision) (keeper out : List ℕ) where
       }
 
   module _ {b : Bool} (e : b ≡ gives_write o) (t : b ≡ true) where
-    pub carried-short : length out < write_size key_size → CarriedOut d keeper out (Refused ShortOutput) keeper out
+    pub carried-short : length out < write_size key_size → CarriedOut d keeper out (Err ShortOutput) keeper out
     carried-short l =
         let s : ltb (length out) (write_size key_size) ≡ true = lt-ltb (length out) (write_size key_size) l in
         record { answer = rw (sym e ∙ t, s); keeper-after = rw (sym e ∙ t, s); meaning = rw (sym e ∙ t, s); out-after = rw (sym e ∙ t, s) }
 
     pub carried-given : {keeper' out' : List ℕ} → write_size key_size ≤ length out → NewEntryPut o (as_write d.write) keeper keeper'
-        → out' ≡ splice 0 (encode_write (as_write d.write)) out → CarriedOut d keeper out (Told d.outcome) keeper' out'
+        → out' ≡ splice 0 (encode_write (as_write d.write)) out → CarriedOut d keeper out (Ok d.outcome) keeper' out'
     carried-given l put w =
         let s : ltb (length out) (write_size key_size) ≡ false = le-ltb (length out) (write_size key_size) l in
         record {

@@ -17,12 +17,11 @@ use Rattle.records.specs.Rules.{rules}
 use Rattle.end_records.specs.Slots.{slots}
 use Rattle.records.specs.SlotBuffers.{slot_count, WholeSlots}
 use Rattle.end_records.proofs.SlotLaws.{slot-count}
-use Rattle.slots.proofs.FindLaws.{found_nowhere, found_at, held_below}
+use Rattle.slots.proofs.FindLaws.{held_below}
 use Rattle.end_records.specs.MessageStructs.{as_write}
 use Rattle.records.specs.Outcomes.{as_outcome}
 use Rattle.policy.specs.Best.{best_found}
-use Rattle.policy.specs.declared.search.BestFound.{BestFound}
-use Rattle.policy.specs.declared.search.BestFound.TheVariants.{NoRule, Rule}
+use Rattle.policy.specs.declared.search.BestRule.{BestRule}
 use Rattle.policy.proofs.BestLaws.{found_none, found-rule, found-action, best-below}
 use Rattle.miss.specs.Decision.{policy_view, DecidedAs, NoWrite, entry_outcome}
 use Rattle.miss.specs.declared.decision.Decision.{Decision}
@@ -57,36 +56,36 @@ module _ (policy key keeper : List ℕ) where
       → DecidedAs policy keeper (miss_with policy key keeper (Some number) None) d
   not-used-up e n is = rw (ne_eqb (largest ks) last_sequence (λ t. n (e ∙ t))) is
 
-  pub held : (number : ℕ) {i : ℕ} {h : Option ℕ} {d : Decision} → h ≡ (first_for positions ks key) → h ≡ Some i
+  pub held : (number : ℕ) {i : ℕ} {h : Option ℕ} {d : Decision} → h ≡ first_for positions ks key → h ≡ Some i
       → DecidedAs policy keeper (again i) d → DecidedAs policy keeper (rule_miss policy key keeper number) d
-  held number {i} e t is = rw (found_at (first_for positions ks key) i (sym t ∙ e)) is
+  held number {i} e t is = rw (sym e ∙ t) is
 
-  pub held-inside : {i : ℕ} {h : Option ℕ} → h ≡ (first_for positions ks key) → h ≡ Some i → i < slot_count key_size keeper
-  held-inside {i} e t = held_below keeper key i (found_at (first_for positions ks key) i (sym t ∙ e))
+  pub held-inside : {i : ℕ} {h : Option ℕ} → h ≡ first_for positions ks key → h ≡ Some i → i < slot_count key_size keeper
+  held-inside {i} e t = held_below keeper key i (sym e ∙ t)
 
-  pub not-held : (number : ℕ) {h : Option ℕ} {d : Decision} → h ≡ (first_for positions ks key) → h ≡ None
+  pub not-held : (number : ℕ) {h : Option ℕ} {d : Decision} → h ≡ first_for positions ks key → h ≡ None
       → DecidedAs policy keeper (miss_with policy key keeper (Some number) None) d → DecidedAs policy keeper (rule_miss policy key keeper number) d
-  not-held number e t is = rw (found_nowhere (first_for positions ks key) (sym t ∙ e)) is
+  not-held number e t is = rw (sym e ∙ t) is
 
   -- ---- the best rule
 
   abbrev pol : List PolicyRule
   pol = rules key_size policy
 
-  pub no-rule : {b : BestFound} {d : Decision} → FineMiss policy key keeper → b ≡ best_found policy key → b ≡ NoRule → NoWrite 0 0 nothing d
+  pub no-rule : {b : Option BestRule} {d : Decision} → FineMiss policy key keeper → b ≡ best_found policy key → b ≡ None → NoWrite 0 0 nothing d
       → DecidedAs policy keeper (miss_in policy key keeper) d
   unfolding on_miss
   no-rule fine e t is =
       rw (found_none policy key (sym e ∙ t))
       (record { outcome = is.told; write = is.write; inside = omega (arith, blank-slot is, fine.whole.some-there) })
 
-  pub rule-for : {b : BestFound} {number action : ℕ} → FineMiss policy key keeper → b ≡ best_found policy key → b ≡ Rule number action
-      → RuleFor policy key number action
-  rule-for {b} {number} {action} fine e t =
-      let is = found-rule policy key number action (sym e ∙ t) in
+  pub rule-for : {b : Option BestRule} {x : BestRule} → FineMiss policy key keeper → b ≡ best_found policy key → b ≡ Some x
+      → RuleFor policy key x.number x.action
+  rule-for {b} {x} fine e t =
+      let is = found-rule policy key x (sym e ∙ t) in
       record {
-        ready = record { low = best-below policy key number is; few = fine.few; long = fine.long; is-best = is };
-        acts = found-action policy key number action (sym e ∙ t);
+        ready = record { low = best-below policy key x.number is; few = fine.few; long = fine.long; is-best = is };
+        acts = found-action policy key x (sym e ∙ t);
       }
 
   pub has-rule : {number action : ℕ} {d : Decision} → RuleFor policy key number action

@@ -1,5 +1,5 @@
 -- What the keeper answers to a miss, and what it leaves in its buffer and in the output. Assumes nothing.
-use Rattle.std.specs.Prelude.{◌≡◌, not, List, ℕ, ltb, length, Option, None, Some}
+use Rattle.std.specs.Prelude.{◌≡◌, not, List, ℕ, ltb, length, Option, None, Some, Result}
 use Rattle.ends.specs.Records.{Write, written}
 use Rattle.ends.specs.Ends.{Miss, no_rule, again, new_entry, used_up, miss_keeper, miss_write}
 use Rattle.ends.specs.Trace.{miss_outcome}
@@ -15,7 +15,7 @@ use Rattle.policy.specs.Lent.{lent_refusal}
 use Rattle.miss.specs.Decision.{policy_view}
 use Rattle.miss.specs.Decide.{miss_in}
 use Rattle.miss.specs.Carry.{miss_answer_of}
-use Rattle.miss.specs.declared.carry.MissAnswer.{MissAnswer}
+use Rattle.records.specs.declared.outcome.Outcome.{Outcome as OutcomeStruct}
 
 -- ---- refusals
 
@@ -44,7 +44,7 @@ out_with None out = out
 out_with (Some w) out = splice 0 (encode_write w) out
 
 -- of what the miss comes to and the refusal: the answer; the keeper after it, byte by byte; its slots; and the output
-pub record MissedAs (policy keeper : List ℕ) (m : Miss) (refused : Option Refusal) (out : List ℕ) (r : MissAnswer)
+pub record MissedAs (policy keeper : List ℕ) (m : Miss) (refused : Option Refusal) (out : List ℕ) (r : Result OutcomeStruct Refusal)
     (keeper' out' : List ℕ) : Type 0 where
   pub answer : r ≡ miss_answer_of refused (miss_outcome (policy_view policy) (slots key_size keeper) m)
   pub keeper-after : keeper' ≡ unless_refused refused keeper (miss_bytes keeper m)
@@ -52,12 +52,12 @@ pub record MissedAs (policy keeper : List ℕ) (m : Miss) (refused : Option Refu
   pub out-after : out' ≡ unless_refused refused out (out_with (miss_write (slots key_size keeper) m) out)
 
 -- the call without its checks
-abbrev pub OnMiss : List ℕ → List ℕ → List ℕ → List ℕ → MissAnswer → List ℕ → List ℕ → Type 0
+abbrev pub OnMiss : List ℕ → List ℕ → List ℕ → List ℕ → Result OutcomeStruct Refusal → List ℕ → List ℕ → Type 0
 OnMiss policy key keeper out r keeper' out' =
     let m = miss_in policy key keeper in
     MissedAs policy keeper m (short_for_write (miss_write (slots key_size keeper) m) (length out)) out r keeper' out'
 
 -- the whole call
-abbrev pub Missed : List ℕ → List ℕ → List ℕ → List ℕ → MissAnswer → List ℕ → List ℕ → Type 0
+abbrev pub Missed : List ℕ → List ℕ → List ℕ → List ℕ → Result OutcomeStruct Refusal → List ℕ → List ℕ → Type 0
 Missed policy key keeper out r keeper' out' =
     MissedAs policy keeper (miss_in policy key keeper) (miss_refused policy key keeper (length out)) out r keeper' out'

@@ -7,18 +7,10 @@ ghost use Rattle.records.specs.Outcomes.{gives_write};
 ghost use Rattle.miss.specs.Carry.{NewEntryPut, CarriedOut};
 
 use crate::decision::Decision;
-use checks::refusal;
 use checks::refusal::Refusal;
 use end_records::write::Write;
 use records::layout;
 use records::outcome::Outcome;
-
-// A miss's refusal, or its outcome.
-#[derive(Clone, Copy)]
-pub enum MissAnswer {
-    Refused(Refusal),
-    Outcome(Outcome),
-}
 
 // Puts the write's entry into its slot, unless the outcome is that the write is given again.
 pub fn put_new_entry(keeper: &mut [u8], outcome: u8, x: Write)
@@ -31,19 +23,22 @@ pub fn put_new_entry(keeper: &mut [u8], outcome: u8, x: Write)
 }
 
 // Carries a decision out: refusal 5 where a write is given; a new entry goes into its slot, and the write into `out`.
-pub(crate) fn carry_out(d: Decision, keeper: &mut [u8], out: &mut [u8]) -> MissAnswer
+pub(crate) fn carry_out(
+    d: Decision,
+    keeper: &mut [u8],
+    out: &mut [u8],
+) -> Result<Outcome, Refusal>
     requires { d.write.slot < slot_count key_size keeper.old }
     ensures { CarriedOut d keeper.old out.old result keeper.new out.new }
 {
-    let outcome = d.outcome;
-    let write = d.write;
+    let Decision { outcome, write } = d;
     if !records::kinds::gives_write(outcome.outcome) {
-        return MissAnswer::Outcome(outcome);
+        return Ok(outcome);
     }
     if out.len() < layout::WRITE_SIZE {
-        return MissAnswer::Refused(refusal::at_no_place(refusal::SHORT_OUTPUT));
+        return Err(Refusal::ShortOutput);
     }
     put_new_entry(keeper, outcome.outcome, write);
     end_records::write::put_write(out, write);
-    MissAnswer::Outcome(outcome)
+    Ok(outcome)
 }

@@ -7,32 +7,28 @@ ghost use Rattle.records.specs.SlotBuffers.{WholeSlots};
 ghost use Rattle.miss.specs.Decision.{DecidedAs};
 ghost use Rattle.miss.specs.Decide.{FineMiss, RuleFor, entry_miss, miss_with, rule_miss, miss_in};
 
-use crate::decision::Decision;
+use crate::decision::{Decision, entry_outcome, no_write, write_again};
 use buffers::wide;
 use end_records::write::Write;
+use policy::search::{BestRule, best_rule};
 use records::{kinds, layout};
-use slots::find::SlotFound;
+use slots::choose::{largest_sequence, slot_for_entry};
+use slots::find::first_slot_for;
 
 // The decision that the rule goes, isolated for the key, to the slot for a new entry, under that sequence.
-fn new_entry(
-    policy: &[u8],
-    key: &[u8],
-    keeper: &[u8],
-    number: u16,
-    action: u16,
-    sequence: u32,
-) -> Decision
-    requires { RuleFor policy.now key.now number action × WholeSlots keeper.now ×
+fn new_entry(policy: &[u8], key: &[u8], keeper: &[u8], best: BestRule, sequence: u32) -> Decision
+    requires { RuleFor policy.now key.now best.number best.action × WholeSlots keeper.now ×
         (sequence ≡ suc (largest (slots key_size keeper.now))) }
     ensures { DecidedAs policy.now keeper.now
-        (entry_miss policy.now key.now keeper.now number) result }
+        (entry_miss policy.now key.now keeper.now best.number) result }
 {
-    let pattern = isolate::rounds::isolate_best(policy, key, wide(number));
-    let i = slots::choose::slot_for_entry(keeper);
-    let value = pattern.value;
-    let mask = pattern.mask;
+    let BestRule { number, action } = best;
+    let isolated = isolate::rounds::isolate_best(policy, key, wide(number));
+    let i = slot_for_entry(keeper);
+    let value = isolated.value;
+    let mask = isolated.mask;
     Decision {
-        outcome: crate::decision::entry_outcome(keeper, i, action, number),
+        outcome: entry_outcome(keeper, i, action, number),
         write: Write {
             slot: i as u16,
             sequence,
@@ -45,27 +41,27 @@ fn new_entry(
 }
 
 // The decision for a rule whose key no slot takes: used up, or an entry is placed.
-fn fresh_entry(policy: &[u8], key: &[u8], keeper: &[u8], number: u16, action: u16) -> Decision
-    requires { RuleFor policy.now key.now number action × WholeSlots keeper.now }
+fn fresh_entry(policy: &[u8], key: &[u8], keeper: &[u8], best: BestRule) -> Decision
+    requires { RuleFor policy.now key.now best.number best.action × WholeSlots keeper.now }
     ensures { DecidedAs policy.now keeper.now
-        (miss_with policy.now key.now keeper.now (Some number) None) result }
+        (miss_with policy.now key.now keeper.now (Some best.number) None) result }
 {
-    let last = slots::choose::largest_sequence(keeper);
+    let last = largest_sequence(keeper);
     if last == layout::LAST_SEQUENCE {
-        return crate::decision::no_write(kinds::USED_UP, action, number);
+        return no_write(kinds::USED_UP, best.action, best.number);
     }
-    new_entry(policy, key, keeper, number, action, last + 1)
+    new_entry(policy, key, keeper, best, last + 1)
 }
 
-// The decision for a key whose best rule has that number and action.
-fn with_rule(policy: &[u8], key: &[u8], keeper: &[u8], number: u16, action: u16) -> Decision
-    requires { RuleFor policy.now key.now number action × WholeSlots keeper.now }
+// The decision for a key that has a best rule.
+fn with_rule(policy: &[u8], key: &[u8], keeper: &[u8], best: BestRule) -> Decision
+    requires { RuleFor policy.now key.now best.number best.action × WholeSlots keeper.now }
     ensures { DecidedAs policy.now keeper.now
-        (rule_miss policy.now key.now keeper.now number) result }
+        (rule_miss policy.now key.now keeper.now best.number) result }
 {
-    match slots::find::first_slot_for(keeper, key) {
-        SlotFound::At(i) => crate::decision::write_again(keeper, i),
-        SlotFound::Nowhere => fresh_entry(policy, key, keeper, number, action),
+    match first_slot_for(keeper, key) {
+        Some(i) => write_again(keeper, i),
+        None => fresh_entry(policy, key, keeper, best),
     }
 }
 
@@ -75,14 +71,8 @@ pub fn decide_miss(policy: &[u8], key: &[u8], keeper: &[u8]) -> Decision
     ensures { DecidedAs policy.now keeper.now
         (miss_in policy.now key.now keeper.now) result }
 {
-    match policy::search::best_rule(policy, key) {
-        policy::search::BestFound::NoRule => crate::decision::no_write(
-            kinds::NO_RULE,
-            0,
-            kinds::NOTHING,
-        ),
-        policy::search::BestFound::Rule { number, action } => with_rule(
-            policy, key, keeper, number, action,
-        ),
+    match best_rule(policy, key) {
+        Some(best) => with_rule(policy, key, keeper, best),
+        None => no_write(kinds::NO_RULE, 0, kinds::NOTHING),
     }
 }

@@ -2,7 +2,7 @@
 use mathlib.Core.Path.{◌≡◌, refl, sym, ◌∙◌}
 use mathlib.Core.Bool.{not}
 use mathlib.Core.List.{List, Memᴰ}
-use Rattle.std.specs.Prelude.{Option, None, Some, Result, ⊤}
+use Rattle.std.specs.Prelude.{Option, None, Some, Result, ⊤, Ok}
 use Prim.Native.Nat.{ℕ, ◌≤◌, ◌<◌}
 use native.Mathlib.Omega.{arith}
 use lib.Dec.{ltb}
@@ -35,8 +35,7 @@ use Rattle.records.specs.Outcomes.{gives_write}
 use Rattle.miss.specs.Decision.{policy_view}
 use Rattle.miss.specs.Decide.{miss_in}
 use Rattle.miss.specs.Carry.{as_struct}
-use Rattle.miss.specs.declared.carry.MissAnswer.{MissAnswer}
-use Rattle.miss.specs.declared.carry.MissAnswer.TheVariants.{Outcome}
+use Rattle.records.specs.declared.outcome.Outcome.{Outcome as OutcomeStruct}
 use Rattle.policy.specs.Lent.{lent_refusal}
 use Rattle.miss.specs.Answers.{short_for_write, miss_refused, miss_bytes, out_with, Missed}
 use Rattle.promises.specs.Calls.{State, miss_gave, after, miss as miss_call, report as report_call}
@@ -77,7 +76,7 @@ module _ {count : ℕ} {s : State} (f : Formed count s) where
   -- outcomes 2, 3 and 5 give a write
   module _ (p : PolicyView) (out : List ℕ) where
     miss-gives : (m : Miss) → MissFits (slot_count key_size s.keeper) m → short_for_write (miss_write k m) (length out) ≡ None
-        → Gives (decode_write key_size) WriteBytes (miss_gave (Outcome (as_struct (miss_outcome p k m))) (out_with (miss_write k m) out))
+        → Gives (decode_write key_size) WriteBytes (miss_gave (Ok (as_struct (miss_outcome p k m))) (out_with (miss_write k m) out))
         (miss_write k m)
     unfolding gives_write
     miss-gives no_rule h room = gives_none
@@ -93,7 +92,7 @@ module _ {count : ℕ} {s : State} (f : Formed count s) where
 
   module _ (policy : List ℕ) (b : Bytes policy) (accepted : AcceptedBytes policy) (key : List ℕ) where
     -- a miss that is not refused uses the one policy
-    missed-with : {out : List ℕ} {r : MissAnswer} {keeper' out' : List ℕ} → Missed policy key s.keeper out r keeper' out'
+    missed-with : {out : List ℕ} {r : Result OutcomeStruct Refusal} {keeper' out' : List ℕ} → Missed policy key s.keeper out r keeper' out'
         → miss_refused policy key s.keeper (length out) ≡ None
         → Stepped (policy_view policy) count s (after s (miss_call policy key out r keeper' out'))
     unfolding step meaning miss_refused
@@ -113,7 +112,7 @@ module _ {count : ℕ} {s : State} (f : Formed count s) where
           formed = keeper-formed f (miss_gave r out') (rw bytes (miss-replaced m h)) gives;
         }
 
-    pub missed : (policy' : List ℕ) {out : List ℕ} {r : MissAnswer} {keeper' out' : List ℕ} → Missed policy' key s.keeper out r keeper' out'
+    pub missed : (policy' : List ℕ) {out : List ℕ} {r : Result OutcomeStruct Refusal} {keeper' out' : List ℕ} → Missed policy' key s.keeper out r keeper' out'
         → (o : Option Refusal) → miss_refused policy' key s.keeper (length out) ≡ o
         → (miss_refused policy' key s.keeper (length out) ≡ None → policy' ≡ policy)
         → Stepped (policy_view policy) count s (after s (miss_call policy' key out r keeper' out'))

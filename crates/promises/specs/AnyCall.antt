@@ -9,7 +9,7 @@ use Rattle.table.specs.declared.LookupAnswer.{LookupAnswer}
 use Rattle.table.specs.Writes.{Received}
 use Rattle.keeper.specs.Reports.{Reported}
 use Rattle.keeper.specs.Opens.{Opened}
-use Rattle.miss.specs.declared.carry.MissAnswer.{MissAnswer}
+use Rattle.records.specs.declared.outcome.Outcome.{Outcome as OutcomeStruct}
 use Rattle.miss.specs.Answers.{Missed}
 use Rattle.run.specs.Runs.{RunIs}
 use Rattle.run.specs.declared.Ran.{Ran}
@@ -22,7 +22,7 @@ pub record AnyCall (s : State) : Type 0 where
   pub writes : (m out : List ℕ) → Bytes m
       → (r : Result ⊤ Refusal) × (table' : List ℕ) × (out' : List ℕ) × Received s.table m out r table' out'
   pub misses : (policy key out : List ℕ) → Bytes policy
-      → (r : MissAnswer) × (keeper' : List ℕ) × (out' : List ℕ) × Missed policy key s.keeper out r keeper' out'
+      → (r : Result OutcomeStruct Refusal) × (keeper' : List ℕ) × (out' : List ℕ) × Missed policy key s.keeper out r keeper' out'
   pub reports : (m : List ℕ) → Bytes m → (r : Result ⊤ Refusal) × (keeper' : List ℕ) × Reported s.keeper m r keeper'
   pub opens : (out : List ℕ) → (r : Result ℕ Refusal) × (out' : List ℕ) × Opened s.keeper out r out'
   pub runs : (policy trace out : List ℕ) (t : Totals) → Bytes policy

@@ -14,8 +14,7 @@ use Rattle.table.specs.Writes.{write_call_refusal, Received}
 use Rattle.keeper.specs.Reports.{report_refused, Reported}
 use Rattle.keeper.specs.Opens.{Opened}
 use Rattle.records.specs.Outcomes.{gives_write}
-use Rattle.miss.specs.declared.carry.MissAnswer.{MissAnswer}
-use Rattle.miss.specs.declared.carry.MissAnswer.TheVariants.{Refused as MissRefused, Outcome}
+use Rattle.records.specs.declared.outcome.Outcome.{Outcome as OutcomeStruct}
 use Rattle.miss.specs.Answers.{miss_refused, Missed}
 use Rattle.run.specs.Refusals.{run_refusal}
 use Rattle.run.specs.Runs.{RunIs}
@@ -44,7 +43,7 @@ cleared_ends count =
 pub data Call : Type 0 where
   lookup : (key out : List ℕ) → LookupAnswer → (table out' : List ℕ) → Call
   write : (message out : List ℕ) → Result ⊤ Refusal → (table out' : List ℕ) → Call
-  miss : (policy key out : List ℕ) → MissAnswer → (keeper out' : List ℕ) → Call
+  miss : (policy key out : List ℕ) → Result OutcomeStruct Refusal → (keeper out' : List ℕ) → Call
   report : (message : List ℕ) → Result ⊤ Refusal → (keeper : List ℕ) → Call
   open_slots : (out : List ℕ) → Result ℕ Refusal → (out' : List ℕ) → Call
   run : (policy trace out : List ℕ) → Totals → Ran → (table keeper out' : List ℕ) → Call
@@ -79,9 +78,9 @@ abbrev pub write_gave : Result ⊤ Refusal → List ℕ → Option (List ℕ)
 write_gave (Err r) out = None
 write_gave (Ok tt) out = Some (take report_size out)
 
-abbrev pub miss_gave : MissAnswer → List ℕ → Option (List ℕ)
-miss_gave (MissRefused r) out = None
-miss_gave (Outcome x) out = cond (gives_write x.outcome) (Some (take (write_size key_size) out)) None
+abbrev pub miss_gave : Result OutcomeStruct Refusal → List ℕ → Option (List ℕ)
+miss_gave (Err r) out = None
+miss_gave (Ok x) out = cond (gives_write x.outcome) (Some (take (write_size key_size) out)) None
 
 -- the state after it; the messages inside a run are delivered at once, and are not among those given
 abbrev pub after : State → Call → State

@@ -1,5 +1,5 @@
 -- One input admits one answer: for each call, two results that meet its contract for the same input are equal. Assumes nothing.
-use Rattle.std.specs.Prelude.{◌≡◌, List, ℕ, Result, ⊤}
+use Rattle.std.specs.Prelude.{◌≡◌, List, ℕ, Result, ⊤, Option}
 use Rattle.policy.specs.Answers.{check_answer}
 use Rattle.policy.specs.RecordAnswers.{record_answer, shown_record}
 use Rattle.policy.specs.BestAnswers.{best_answer}
@@ -7,14 +7,14 @@ use Rattle.policy.specs.declared.BestAnswer.{BestAnswer}
 use Rattle.isolate.specs.Answers.{isolate_answer}
 use Rattle.isolate.specs.declared.IsolateAnswer.{IsolateAnswer}
 use Rattle.show.specs.Answers.{show_answer, shown_part}
-use Rattle.show.specs.declared.ShowAnswer.{ShowAnswer}
+use Rattle.show.specs.declared.Source.{Source}
 use Rattle.cover.specs.Answers.{Covered}
 use Rattle.table.specs.Lookups.{LookedUp}
 use Rattle.table.specs.declared.LookupAnswer.{LookupAnswer}
 use Rattle.table.specs.Writes.{Received}
 use Rattle.keeper.specs.Reports.{Reported}
 use Rattle.keeper.specs.Opens.{Opened}
-use Rattle.miss.specs.declared.carry.MissAnswer.{MissAnswer}
+use Rattle.records.specs.declared.outcome.Outcome.{Outcome as OutcomeStruct}
 use Rattle.miss.specs.Answers.{Missed}
 use Rattle.ends.specs.Records.{Totals}
 use Rattle.run.specs.Runs.{RunIs, result_of as gathered}
@@ -62,11 +62,11 @@ pub record EachSingle : Type 0 where
   pub record-answers : Single (λ (a : Buffer × ℕ) (x : Result ⊤ Refusal). x ≡ record_answer a.0 a.1)
   pub isolates : Single (λ (a : Buffer × Buffer × ℕ) (x : IsolateAnswer). x ≡ isolate_answer a.0 a.1 a.2)
   pub shows : Single (λ (a : Buffer × Buffer × Buffer) (x : Buffer). x ≡ shown_part a.0 a.1 a.2)
-  pub show-answers : Single (λ (a : Buffer × Buffer × Buffer) (x : ShowAnswer). x ≡ show_answer a.0 a.1 a.2)
+  pub show-answers : Single (λ (a : Buffer × Buffer × Buffer) (x : Result (Option Source) Refusal). x ≡ show_answer a.0 a.1 a.2)
   pub covers : Single (λ (a : Buffer × ℕ × Buffer) (x : Result ℕ Refusal × Buffer). Covered a.0 a.1 a.2 x.0 x.1)
   pub lookups : Single (λ (a : Buffer × Buffer × Buffer) (x : LookupAnswer × Buffer × Buffer). LookedUp a.0 a.1 a.2 x.0 x.1 x.2)
   pub writes : Single (λ (a : Buffer × Buffer × Buffer) (x : Result ⊤ Refusal × Buffer × Buffer). Received a.0 a.1 a.2 x.0 x.1 x.2)
-  pub misses : Single (λ (a : Buffer × Buffer × Buffer × Buffer) (x : MissAnswer × Buffer × Buffer).
+  pub misses : Single (λ (a : Buffer × Buffer × Buffer × Buffer) (x : Result OutcomeStruct Refusal × Buffer × Buffer).
       Missed a.0 a.1 a.2 a.3 x.0 x.1 x.2)
   pub reports : Single (λ (a : Buffer × Buffer) (x : Result ⊤ Refusal × Buffer). Reported a.0 a.1 x.0 x.1)
   pub opens : Single (λ (a : Buffer × Buffer) (x : Result ℕ Refusal × Buffer). Opened a.0 a.1 x.0 x.1)

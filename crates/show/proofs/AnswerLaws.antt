@@ -1,7 +1,7 @@
 -- What the answer says of the record that is shown, and what the tests come to. Assumes nothing.
 use mathlib.Core.Path.{◌≡◌, refl}
 use mathlib.Core.List.{List}
-use Rattle.std.specs.Prelude.{Option, None, Some}
+use Rattle.std.specs.Prelude.{Option, None, Some, Ok}
 use Prim.Native.Nat.{ℕ, ◌<◌}
 use native.Mathlib.Omega.{arith}
 use Rattle.model.specs.Policy.{best}
@@ -14,26 +14,27 @@ use Rattle.checks.specs.declared.refusal.Refusal.{Refusal}
 use Rattle.end_records.specs.Slots.{slots}
 use Rattle.records.specs.SlotBuffers.{slot_count}
 use Rattle.end_records.proofs.SlotLaws.{slot-count}
+use Rattle.checks.specs.Refusals.{answer_of}
 use Rattle.policy.specs.Lent.{lent_refusal}
 use Rattle.policy.proofs.BestLaws.{best-below}
-use Rattle.show.specs.Answers.{shown_in, show_answer_of, show_answer}
-use Rattle.show.specs.declared.ShowAnswer.TheVariants.{NoRule, FromTable, FromPolicy}
+use Rattle.show.specs.Answers.{shown_in, source_of, show_answer}
+use Rattle.show.specs.declared.Source.TheVariants.{Table, Policy}
 
 -- ---- from the answer to the record
 
-of-slot : (o : Option Refusal) (x : Shown) (i : ℕ) → show_answer_of o x ≡ FromTable i → (o ≡ None) × (x ≡ slot_shown i)
+of-slot : (o : Option Refusal) (x : Shown) (i : ℕ) → answer_of o (source_of x) ≡ Ok (Some (Table i)) → (o ≡ None) × (x ≡ slot_shown i)
 of-slot (Some r) x i e = let z : ◌≡◌ {A = ℕ} 0 1 = cc in absurd (omega arith)
 of-slot None (slot_shown k) i e = (refl, cc)
 of-slot None (rule_shown k) i e = let z : ◌≡◌ {A = ℕ} 0 1 = cc in absurd (omega arith)
 of-slot None nothing_shown i e = let z : ◌≡◌ {A = ℕ} 0 1 = cc in absurd (omega arith)
 
-of-rule : (o : Option Refusal) (x : Shown) (i : ℕ) → show_answer_of o x ≡ FromPolicy i → (o ≡ None) × (x ≡ rule_shown i)
+of-rule : (o : Option Refusal) (x : Shown) (i : ℕ) → answer_of o (source_of x) ≡ Ok (Some (Policy i)) → (o ≡ None) × (x ≡ rule_shown i)
 of-rule (Some r) x i e = let z : ◌≡◌ {A = ℕ} 0 1 = cc in absurd (omega arith)
 of-rule None (slot_shown k) i e = let z : ◌≡◌ {A = ℕ} 0 1 = cc in absurd (omega arith)
 of-rule None (rule_shown k) i e = (refl, cc)
 of-rule None nothing_shown i e = let z : ◌≡◌ {A = ℕ} 0 1 = cc in absurd (omega arith)
 
-of-neither : (o : Option Refusal) (x : Shown) → show_answer_of o x ≡ NoRule → (o ≡ None) × (x ≡ nothing_shown)
+of-neither : (o : Option Refusal) (x : Shown) → answer_of o (source_of x) ≡ Ok None → (o ≡ None) × (x ≡ nothing_shown)
 of-neither (Some r) x e = let z : ◌≡◌ {A = ℕ} 0 1 = cc in absurd (omega arith)
 of-neither None (slot_shown k) e = let z : ◌≡◌ {A = ℕ} 0 1 = cc in absurd (omega arith)
 of-neither None (rule_shown k) e = let z : ◌≡◌ {A = ℕ} 0 1 = cc in absurd (omega arith)
@@ -41,33 +42,33 @@ of-neither None nothing_shown e = (refl, refl)
 
 module _ (policy key table : List ℕ) where
   -- a record that is shown: none of the arguments is refused, and the model shows it
-  pub table-shown : (i : ℕ) → show_answer policy key table ≡ FromTable i
+  pub table-shown : (i : ℕ) → show_answer policy key table ≡ Ok (Some (Table i))
       → (lent_refusal policy key table ≡ None) × (shown_in policy key table ≡ slot_shown i)
   unfolding show_answer
   table-shown i e = of-slot (lent_refusal policy key table) (shown_in policy key table) i e
 
-  pub policy-shown : (r : ℕ) → show_answer policy key table ≡ FromPolicy r
+  pub policy-shown : (r : ℕ) → show_answer policy key table ≡ Ok (Some (Policy r))
       → (lent_refusal policy key table ≡ None) × (shown_in policy key table ≡ rule_shown r)
   unfolding show_answer
   policy-shown r e = of-rule (lent_refusal policy key table) (shown_in policy key table) r e
 
-  pub nothing-shown : show_answer policy key table ≡ NoRule → shown_in policy key table ≡ nothing_shown
+  pub nothing-shown : show_answer policy key table ≡ Ok None → shown_in policy key table ≡ nothing_shown
   unfolding show_answer
   nothing-shown e = (of-neither (lent_refusal policy key table) (shown_in policy key table) e).1
 
   -- ---- from the tests to the answer
 
   module _ (fine : lent_refusal policy key table ≡ None) where
-    pub says_slot : (i : ℕ) → first_for positions (slots key_size table) key ≡ Some i → FromTable i ≡ show_answer policy key table
+    pub says_slot : (i : ℕ) → first_for positions (slots key_size table) key ≡ Some i → Ok (Some (Table i)) ≡ show_answer policy key table
     unfolding show_answer shown
     says_slot i e = rw (fine, e)
 
     module _ (missed : first_for positions (slots key_size table) key ≡ None) where
-      pub says-rule : (r : ℕ) → best positions (rules key_size policy) key ≡ Some r → FromPolicy r ≡ show_answer policy key table
+      pub says-rule : (r : ℕ) → best positions (rules key_size policy) key ≡ Some r → Ok (Some (Policy r)) ≡ show_answer policy key table
       unfolding show_answer shown
       says-rule r e = rw (fine, missed, e)
 
-      pub says_none : best positions (rules key_size policy) key ≡ None → NoRule ≡ show_answer policy key table
+      pub says_none : best positions (rules key_size policy) key ≡ None → Ok None ≡ show_answer policy key table
       unfolding show_answer shown
       says_none e = rw (fine, missed, e)
 
@@ -76,8 +77,8 @@ module _ (policy key table : List ℕ) where
   decides = shown-for positions (rules key_size policy) (slots key_size table) key
 
   -- a slot that is shown is one of the table, and a rule that is shown one of the policy
-  pub table_below : (i : ℕ) → show_answer policy key table ≡ FromTable i → i < slot_count key_size table
+  pub table_below : (i : ℕ) → show_answer policy key table ≡ Ok (Some (Table i)) → i < slot_count key_size table
   table_below i e = omega (arith, ((decides.slot i).0 (table-shown policy key table i e).1).inside, slot-count key_size table)
 
-  pub policy-below : (r : ℕ) → show_answer policy key table ≡ FromPolicy r → r < rule_count key_size policy
+  pub policy-below : (r : ℕ) → show_answer policy key table ≡ Ok (Some (Policy r)) → r < rule_count key_size policy
   policy-below r e = best-below policy key r ((decides.rule r).0 (policy-shown policy key table r e).1).1

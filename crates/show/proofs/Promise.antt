@@ -1,7 +1,7 @@
 -- The record that is shown is the one that decides, and a whole record of its buffer. Assumes nothing.
 use mathlib.Core.Path.{◌≡◌}
 use mathlib.Core.List.{List}
-use Rattle.std.specs.Prelude.{None}
+use Rattle.std.specs.Prelude.{None, Ok, Some}
 use Prim.Native.Nat.{ℕ, ◌*◌}
 use native.Mathlib.Omega.{arith}
 use Rattle.ends.specs.Show.{slot_shown, rule_shown, nothing_shown}
@@ -14,19 +14,19 @@ use Rattle.end_records.specs.Slots.{slots}
 use Rattle.policy.specs.Lent.{lent_refusal}
 use Rattle.show.specs.Answers.{shown_in, show_answer, shown_part}
 use Rattle.show.specs.Promise.{DecidesLaw, WholePart}
-use Rattle.show.specs.declared.ShowAnswer.TheVariants.{NoRule, FromTable, FromPolicy}
+use Rattle.show.specs.declared.Source.TheVariants.{Table, Policy}
 use Rattle.show.proofs.AnswerLaws.{table-shown, policy-shown, nothing-shown, table_below, policy-below}
 
 module _ (policy key table : List ℕ) (fine : lent_refusal policy key table ≡ None) where
-  slot-here : (i : ℕ) → shown_in policy key table ≡ slot_shown i → show_answer policy key table ≡ FromTable i
+  slot-here : (i : ℕ) → shown_in policy key table ≡ slot_shown i → show_answer policy key table ≡ Ok (Some (Table i))
   unfolding show_answer
   slot-here i e = rw (fine, e)
 
-  rule-here : (r : ℕ) → shown_in policy key table ≡ rule_shown r → show_answer policy key table ≡ FromPolicy r
+  rule-here : (r : ℕ) → shown_in policy key table ≡ rule_shown r → show_answer policy key table ≡ Ok (Some (Policy r))
   unfolding show_answer
   rule-here r e = rw (fine, e)
 
-  neither-here : shown_in policy key table ≡ nothing_shown → show_answer policy key table ≡ NoRule
+  neither-here : shown_in policy key table ≡ nothing_shown → show_answer policy key table ≡ Ok None
   unfolding show_answer
   neither-here e = rw (fine, e)
 

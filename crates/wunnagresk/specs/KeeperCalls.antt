@@ -1,5 +1,5 @@
 -- The keeper's calls as C sees them: the numbers of the answer, and the buffers after it. Assumes nothing.
-use Rattle.std.specs.Prelude.{◌≡◌, List, ℕ, length}
+use Rattle.std.specs.Prelude.{◌≡◌, List, ℕ, length, Result}
 use Rattle.ends.specs.Ends.{miss_write}
 use Rattle.ends.specs.Trace.{miss_outcome}
 use Rattle.ternary.specs.Sizes.{key_size}
@@ -7,6 +7,7 @@ use Rattle.buffers.specs.Parts.{splice}
 use Rattle.end_records.specs.Slots.{slots}
 use Rattle.end_records.specs.Reports.{decode_report}
 use Rattle.lists.specs.Written.{number_bytes}
+use Rattle.checks.specs.declared.refusal.Refusal.{Refusal}
 use Rattle.checks.specs.Refusals.{answer_of, unless_refused}
 use Rattle.slots.specs.Settle.{report_bytes}
 use Rattle.keeper.specs.Reports.{report_refused, report_answer}
@@ -14,7 +15,7 @@ use Rattle.keeper.specs.Opens.{open_in, open_refusal}
 use Rattle.miss.specs.Decision.{policy_view}
 use Rattle.miss.specs.Decide.{miss_in}
 use Rattle.miss.specs.Carry.{miss_answer_of}
-use Rattle.miss.specs.declared.carry.MissAnswer.{MissAnswer}
+use Rattle.records.specs.declared.outcome.Outcome.{Outcome as OutcomeStruct}
 use Rattle.miss.specs.Answers.{miss_refused, miss_bytes, out_with}
 use Rattle.c_answers.specs.Answers.{miss_for_c, done_for_c, count_for_c}
 use Rattle.c_answers.specs.declared.structs.WgCount.{WgCount}
@@ -22,7 +23,7 @@ use Rattle.c_answers.specs.declared.structs.WgDone.{WgDone}
 use Rattle.c_answers.specs.declared.structs.WgOutcome.{WgOutcome}
 
 -- the refusal, or the model's outcome
-abbrev pub miss_answer : List ℕ → List ℕ → List ℕ → ℕ → MissAnswer
+abbrev pub miss_answer : List ℕ → List ℕ → List ℕ → ℕ → Result OutcomeStruct Refusal
 miss_answer policy key keeper out_len =
     miss_answer_of (miss_refused policy key keeper out_len) (miss_outcome (policy_view policy) (slots key_size keeper) (miss_in policy key keeper))
 

@@ -7,24 +7,24 @@ use Rattle.show.proofs.AnswerLaws.{table_below, policy-below}
 use Rattle.show.proofs.show.Goals as goal
 
 -- the slot is one of the table, the rule one of the policy
-pub slice_bounds-result-end-in-FromTable : goal.slice_bounds-result-end-in-FromTable
-slice_bounds-result-end-in-FromTable c = omega (arith, table_below _ _ _ _ (sym c.in-FromTable.ensures))
+pub slice_bounds-result-end : goal.slice_bounds-result-end
+slice_bounds-result-end c = omega (arith, c.from-at.ensures, table_below _ _ _ _ (sym (rw (c.in-Ok-Some-Table.field-0-is, c.in-Ok-Some-Table.field-0-0-is) at c.in-Ok-Some-Table.ensures)))
 
-pub slice_bounds-result-end-in-FromPolicy : goal.slice_bounds-result-end-in-FromPolicy
-slice_bounds-result-end-in-FromPolicy c = omega (arith, policy-below _ _ _ _ (sym c.in-FromPolicy.ensures))
+pub slice_bounds-result-end-in-Ok-Some-Policy : goal.slice_bounds-result-end-in-Ok-Some-Policy
+slice_bounds-result-end-in-Ok-Some-Policy c = omega (arith, c.from-at-in-Ok-Some-Policy.ensures, policy-below _ _ _ _ (sym (rw (c.in-Ok-Some-Policy.field-0-is, c.in-Ok-Some-Policy.field-0-0-is) at c.in-Ok-Some-Policy.ensures)))
 
-pub returns-in-Refused : goal.returns-in-Refused
+pub returns-in-Ok-Some-Table : goal.returns-in-Ok-Some-Table
 unfolding shown_part
-returns-in-Refused c = rw (← c.in-Refused.ensures)
+returns-in-Ok-Some-Table c = rw (← (rw (c.in-Ok-Some-Table.field-0-is, c.in-Ok-Some-Table.field-0-0-is) at c.in-Ok-Some-Table.ensures), c.from-at.ensures, add-sub_cancel_left)
 
-pub returns-in-NoRule : goal.returns-in-NoRule
+pub returns-in-Ok-Some-Policy : goal.returns-in-Ok-Some-Policy
 unfolding shown_part
-returns-in-NoRule c = rw (← c.in-NoRule.ensures)
+returns-in-Ok-Some-Policy c = rw (← (rw (c.in-Ok-Some-Policy.field-0-is, c.in-Ok-Some-Policy.field-0-0-is) at c.in-Ok-Some-Policy.ensures), c.from-at-in-Ok-Some-Policy.ensures, add-sub_cancel_left)
 
-pub returns-in-FromTable : goal.returns-in-FromTable
+pub returns-in-Ok-None : goal.returns-in-Ok-None
 unfolding shown_part
-returns-in-FromTable c = rw (← c.in-FromTable.ensures, add-sub_cancel_left)
+returns-in-Ok-None c = rw (← (rw c.in-Ok-None.field-0-is at c.in-Ok-None.ensures))
 
-pub returns-in-FromPolicy : goal.returns-in-FromPolicy
+pub returns-in-Err : goal.returns-in-Err
 unfolding shown_part
-returns-in-FromPolicy c = rw (← c.in-FromPolicy.ensures, add-sub_cancel_left)
+returns-in-Err c = rw (← c.in-Err.ensures)

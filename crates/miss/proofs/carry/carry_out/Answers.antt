@@ -9,7 +9,7 @@ returns-then-not-gives_write c = carried-quiet _ _ _ c.gives_write.ensures c.if-
 
 pub returns-then-out-lt-WRITE_SIZE : goal.returns-then-out-lt-WRITE_SIZE
 returns-then-out-lt-WRITE_SIZE c =
-    rw c.at_no_place.ensures (carried-short _ _ _ c.gives_write.ensures c.if-not-gives_write.false (omega (arith, c.if-out-lt-WRITE_SIZE.true)))
+    carried-short _ _ _ c.gives_write.ensures c.if-not-gives_write.false (omega (arith, c.if-out-lt-WRITE_SIZE.true))
 
 pub put_new_entry-requires : goal.put_new_entry-requires
 put_new_entry-requires c =

@@ -4,14 +4,14 @@ use Rattle.miss.proofs.decide.decide_miss.Goals as goal
 
 pub with_rule-requires : goal.with_rule-requires
 with_rule-requires c =
-    (rule-for _ _ c.args.keeper.now c.requires c.best_rule.ensures c.in-Rule.is, c.requires.whole)
+    (rule-for _ _ c.args.keeper.now c.requires c.best_rule.ensures c.in-Some.is, c.requires.whole)
 
-pub returns-in-NoRule : goal.returns-in-NoRule
-returns-in-NoRule c =
-    no-rule _ _ _ c.requires c.best_rule.ensures c.in-NoRule.is c.no_write.ensures
+pub returns-in-None : goal.returns-in-None
+returns-in-None c =
+    no-rule _ _ _ c.requires c.best_rule.ensures c.in-None.is c.no_write.ensures
 
-pub returns-in-Rule : goal.returns-in-Rule
-returns-in-Rule c =
+pub returns-in-Some : goal.returns-in-Some
+returns-in-Some c =
     has-rule _ _ _
-    (rule-for _ _ c.args.keeper.now c.requires c.best_rule.ensures c.in-Rule.is)
+    (rule-for _ _ c.args.keeper.now c.requires c.best_rule.ensures c.in-Some.is)
     c.with_rule.ensures

@@ -5,16 +5,16 @@ use Rattle.miss.proofs.decide.with_rule.Goals as goal
 pub write_again-requires : goal.write_again-requires
 write_again-requires c =
     let a = c.args in
-    (held-inside a.policy.now a.key.now a.keeper.now c.first_slot_for.ensures c.in-At.is, c.requires.1.few-there)
+    (held-inside a.policy.now a.key.now a.keeper.now c.first_slot_for.ensures c.in-Some.is, c.requires.1.few-there)
 
-pub returns-in-At : goal.returns-in-At
-returns-in-At c =
+pub returns-in-Some : goal.returns-in-Some
+returns-in-Some c =
     let a = c.args in
-    held a.policy.now a.key.now a.keeper.now a.number c.first_slot_for.ensures c.in-At.is
+    held a.policy.now a.key.now a.keeper.now a.best.number c.first_slot_for.ensures c.in-Some.is
     (c.write_again.ensures a.policy.now)
 
-pub returns-in-Nowhere : goal.returns-in-Nowhere
-returns-in-Nowhere c =
+pub returns-in-None : goal.returns-in-None
+returns-in-None c =
     let a = c.args in
-    not-held a.policy.now a.key.now a.keeper.now a.number c.first_slot_for.ensures c.in-Nowhere.is
+    not-held a.policy.now a.key.now a.keeper.now a.best.number c.first_slot_for.ensures c.in-None.is
     c.fresh_entry.ensures
