@@ -3,7 +3,7 @@ use Rattle.std.specs.Prelude.{not, List, ℕ, ◌+◌, ltb, Option, None, Some}
 use Rattle.model.specs.Isolate.{Isolated}
 use Rattle.checks.specs.declared.refusal.Refusal.TheVariants.{ShortOutput}
 use Rattle.ternary.specs.Sizes.{key_size}
-use Rattle.checks.specs.Refusals.{or_else, need}
+use Rattle.checks.specs.Refusals.{or_else, need, number_of, place_of}
 use Rattle.checks.specs.declared.refusal.Refusal.{Refusal}
 use Rattle.isolate.specs.Answers.{isolate_refusal}
 use Rattle.c_answers.specs.declared.structs.WgIsolated.{WgIsolated}
@@ -18,7 +18,7 @@ pattern_refusal policy key number out_len =
     or_else (isolate_refusal policy key number) (need (not (ltb out_len pattern_size)) ShortOutput None)
 
 abbrev pub refused_counts : Refusal → WgIsolated
-refused_counts r = record { refusal = r.number; place = r.place; fixed = 0; wildcards = 0 }
+refused_counts r = record { refusal = number_of r; place = place_of r; fixed = 0; wildcards = 0 }
 
 abbrev pub isolated_counts : ℕ → ℕ → WgIsolated
 isolated_counts fixed wildcards = record { refusal = 0; place = 0; fixed = fixed; wildcards = wildcards }

@@ -6,8 +6,7 @@ ghost use Rattle.c_answers.specs.Isolate.{pattern_size, refused_counts, isolated
 ghost use Rattle.c_answers.specs.IsolateCalls.{IsolateCall};
 
 use crate::structs::WgIsolated;
-use checks::refusal;
-use checks::refusal::{Refusal, Verdict};
+use checks::refusal::Refusal;
 use records::layout;
 use records::layout::PATTERN_SIZE;
 
@@ -16,8 +15,8 @@ fn refused_numbers(refusal: Refusal) -> WgIsolated
     ensures { result ≡ refused_counts refusal }
 {
     WgIsolated {
-        refusal: refusal.number,
-        place: refusal.place,
+        refusal: refusal.number(),
+        place: refusal.place(),
         fixed: 0,
         wildcards: 0,
     }
@@ -49,16 +48,13 @@ fn put_pattern(out: &mut [u8], value: [u8; layout::KEY_SIZE], mask: [u8; layout:
 pub fn isolate_with(policy: &[u8], key: &[u8], number: usize, out: &mut [u8]) -> WgIsolated
     ensures { IsolateCall policy.now key.now number out.old result out.new }
 {
-    let answer = isolate::isolate(policy, key, number);
-    let verdict = answer.verdict;
-    let value = answer.value;
-    let mask = answer.mask;
-    if let Verdict::Refused(refusal) = verdict {
-        return refused_numbers(refusal);
-    }
+    let isolated = match isolate::isolate(policy, key, number) {
+        Ok(isolated) => isolated,
+        Err(refusal) => return refused_numbers(refusal),
+    };
     if out.len() < PATTERN_SIZE {
-        return refused_numbers(refusal::at_no_place(refusal::SHORT_OUTPUT));
+        return refused_numbers(Refusal::ShortOutput);
     }
-    put_pattern(out, value, mask);
-    isolated_numbers(answer.fixed, answer.wildcards)
+    put_pattern(out, isolated.value, isolated.mask);
+    isolated_numbers(isolated.fixed, isolated.wildcards)
 }

@@ -8,5 +8,4 @@ pub mod isolated;
 pub mod lookup;
 pub mod outcome;
 pub mod part;
-pub mod ran;
 pub mod structs;

@@ -1,7 +1,7 @@
 -- The table looks the packet's key up: a hit, whose report goes to the keeper, or a miss. Assumes nothing.
 use mathlib.Core.Path.{◌≡◌, refl, sym, ap, ◌∙◌}
 use mathlib.Core.List.{List}
-use Rattle.std.specs.Prelude.{Option, None, Some, Result, ⊤}
+use Rattle.std.specs.Prelude.{Option, None, Some, Result, ⊤, Ok, option_map}
 use Prim.Native.Nat.{ℕ, ◌<◌}
 use native.Mathlib.Omega.{arith}
 use lib.ListN.{length}
@@ -19,16 +19,15 @@ use Rattle.records.specs.SlotBuffers.{slot_count}
 use Rattle.end_records.proofs.SlotLaws.{slot-count}
 use Rattle.records.proofs.SlotBufferLaws.{as-whole}
 use Rattle.end_records.specs.Reports.{encode_report, ReportFits}
-use Rattle.table.specs.Lookups.{lookup_refusal, lookup_answer_of, LookedUp}
-use Rattle.table.specs.declared.LookupAnswer.{LookupAnswer}
-use Rattle.table.specs.declared.LookupAnswer.TheVariants.{Hit}
+use Rattle.table.specs.Lookups.{lookup_refusal, hit_told, LookedUp}
+use Rattle.table.specs.declared.Hit.{Hit}
 use Rattle.table.proofs.ModelLaws.{good-lookup, looked-up}
 use Rattle.keeper.specs.Reports.{Reported}
 use Rattle.run.proofs.SendLaws.{same_ends, told-fits, reported-to}
 use Rattle.checks.specs.declared.refusal.Refusal.{Refusal}
 use Rattle.run.specs.Packets.{FinePacket, PacketDone, missed_outcome, missed_ends, packet_outcome, packet_ends}
 
-module _ {policy key table keeper out table' out' : List ℕ} {r : LookupAnswer}
+module _ {policy key table keeper out table' out' : List ℕ} {r : Result (Option Hit) Refusal}
     (fine : FinePacket policy key table keeper) (room : length out ≡ report_size) (is : LookedUp key table out r table' out') where
   abbrev t : List Slot
   t = slots key_size table
@@ -41,17 +40,25 @@ module _ {policy key table keeper out table' out' : List ℕ} {r : LookupAnswer}
 
   -- ---- a hit
 
-  found_in : {slot rule action : ℕ} (f : Option ℕ) → Hit slot rule action ≡ lookup_answer_of None (hit_at t f)
-      → (f ≡ Some slot) × (rule ≡ (slot_at t slot).rule) × (action ≡ (slot_at t slot).action)
-  found_in {slot} None e = let z : ◌≡◌ {A = ℕ} 0 1 = cc in absurd (omega arith)
-  found_in {slot} (Some i) e = let s : i ≡ slot = cc in (ap Some s, rw (← s) cc, rw (← s) cc)
+  abbrev some_hit : Hit → Result (Option Hit) Refusal
+  some_hit hit = Ok (Some hit)
 
-  pub packet-hit : {slot rule action : ℕ} {keeper' : List ℕ} {a : Result ⊤ Refusal} → r ≡ Hit slot rule action → length table' ≡ length table
+  abbrev hits : Option ℕ → Result (Option Hit) Refusal
+  hits f = Ok (option_map hit_told (hit_at t f))
+
+  found_in : {hit : Hit} (f : Option ℕ) → some_hit hit ≡ hits f
+      → (f ≡ Some hit.slot) × (hit.rule ≡ (slot_at t hit.slot).rule) × (hit.action ≡ (slot_at t hit.slot).action)
+  found_in {hit} None e = let z : ◌≡◌ {A = ℕ} 0 1 = cc in absurd (omega arith)
+  found_in {hit} (Some i) e =
+      let s : hit ≡ record { slot = i; rule = (slot_at t i).rule; action = (slot_at t i).action } = cc in rw s (refl, refl, refl)
+
+  pub packet-hit : {hit : Hit} {keeper' : List ℕ} {a : Result ⊤ Refusal} → r ≡ Ok (Some hit) → length table' ≡ length table
       → Bytes table' → Reported keeper out' a keeper'
       → PacketDone (packet_outcome policy key table keeper) (packet_ends policy key table keeper)
-      (record { outcome = 1; action = action; rule = rule; slot = slot; evicted = nothing }) table' keeper'
+      (record { outcome = 1; action = hit.action; rule = hit.rule; slot = hit.slot; evicted = nothing }) table' keeper'
   unfolding lookup after_lookup one_packet one_outcome
-  packet-hit {slot} {keeper' = keeper'} e l h reported =
+  packet-hit {hit} {keeper' = keeper'} e l h reported =
+      let slot : ℕ = hit.slot in
       let did = looked-up is open-to in
       let at = found_in (first_for positions t key) (sym e ∙ did.0) in
       let x : Slot = counted (slot_at t slot) in
@@ -70,11 +77,11 @@ module _ {policy key table keeper out table' out' : List ℕ} {r : LookupAnswer}
 
   -- ---- a miss
 
-  nowhere : (f : Option ℕ) → r ≡ lookup_answer_of None (hit_at t f) → ((slot rule action : ℕ) → r ≡ Hit slot rule action → ◌≡◌ {A = ℕ} 0 1) → f ≡ None
+  nowhere : (f : Option ℕ) → r ≡ hits f → ((hit : Hit) → r ≡ Ok (Some hit) → ◌≡◌ {A = ℕ} 0 1) → f ≡ None
   nowhere None e no_hit = refl
-  nowhere (Some i) e no_hit = let z : ◌≡◌ {A = ℕ} 0 1 = no_hit i _ _ e in absurd (omega arith)
+  nowhere (Some i) e no_hit = let z : ◌≡◌ {A = ℕ} 0 1 = no_hit _ e in absurd (omega arith)
 
-  module _ (no_hit : (slot rule action : ℕ) → r ≡ Hit slot rule action → ◌≡◌ {A = ℕ} 0 1) where
+  module _ (no_hit : (hit : Hit) → r ≡ Ok (Some hit) → ◌≡◌ {A = ℕ} 0 1) where
     missed_here : first_for positions t key ≡ None
     unfolding lookup
     missed_here = nowhere (first_for positions t key) (looked-up is open-to).0 no_hit

@@ -7,14 +7,15 @@ use Rattle.records.specs.Layout.{trace_size, outcome_size, most_packets}
 use Rattle.records.specs.Traces.{packet_count}
 use Rattle.checks.specs.Refusals.{or_else, need}
 use Rattle.checks.specs.declared.refusal.Refusal.{Refusal}
-use Rattle.checks.specs.Flawed.{trace_flaw_at, records_refusal}
+use Rattle.checks.specs.Flaws.{trace_flaw}
+use Rattle.checks.specs.Flawed.{records_refusal}
 use Rattle.checks.specs.BufferRefusals.{slots_refusal}
 use Rattle.policy.specs.Refusals.{policy_refusal}
 use Rattle.totals.specs.Sums.{totals_fit}
 
 -- trace 1, 2, 3
 unfoldable pub trace_refusal : List ℕ → Option Refusal
-trace_refusal bs = records_refusal (trace_size key_size) most_packets (trace_flaw_at key_size bs) bs
+trace_refusal bs = records_refusal (trace_size key_size) most_packets (trace_flaw key_size) bs
 
 -- table 4; keeper 4; 12
 unfoldable pub ends_refusal : List ℕ → List ℕ → Option Refusal

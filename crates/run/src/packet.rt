@@ -2,6 +2,7 @@
 ghost use Rattle.records.specs.Outcomes.{as_outcome};
 ghost use Rattle.run.specs.Packets.{FinePacket, PacketDone, missed_outcome, missed_ends, packet_outcome, packet_ends};
 
+use miss::decision::Decision;
 use records::layout;
 use records::outcome::Outcome;
 
@@ -13,8 +14,7 @@ fn missed(policy: &[u8], key: &[u8], table: &mut [u8], keeper: &mut [u8]) -> Out
         (as_outcome result) table.new keeper.new }
 {
     let d = miss::decide::decide_miss(policy, key, keeper);
-    let outcome = d.outcome;
-    let write = d.write;
+    let Decision { outcome, write } = d;
     if records::kinds::gives_write(outcome.outcome) {
         miss::carry::put_new_entry(keeper, outcome.outcome, write);
         crate::send::send_write(write, table, keeper);
@@ -30,17 +30,14 @@ pub(crate) fn one_packet(policy: &[u8], key: &[u8], table: &mut [u8], keeper: &m
         (as_outcome result) table.new keeper.new }
 {
     let mut report = [0; layout::REPORT_SIZE];
-    if let table::LookupAnswer::Hit { slot, rule, action } = table::lookup(
-        key,
-        table,
-        &mut report,
-    ) {
-        keeper::report(keeper, &report);
+    let found = table::lookup(key, table, &mut report).ok().flatten();
+    if let Some(hit) = found {
+        let _ = keeper::report(keeper, &report);
         return Outcome {
             outcome: records::kinds::HIT,
-            action,
-            rule,
-            slot,
+            action: hit.action,
+            rule: hit.rule,
+            slot: hit.slot,
             evicted: records::kinds::NOTHING,
         };
     }

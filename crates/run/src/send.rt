@@ -3,7 +3,6 @@ ghost use Rattle.std.specs.Prelude.{◌≡◌};
 ghost use Rattle.end_records.specs.MessageStructs.{as_write};
 ghost use Rattle.run.specs.Send.{ends_in, WholeEnds, sent_ends};
 
-use checks::refusal::Verdict;
 use end_records::write::Write;
 use records::layout;
 
@@ -14,7 +13,7 @@ pub(crate) fn send_write(w: Write, table: &mut [u8], keeper: &mut [u8])
 {
     let message = end_records::write::write_bytes(w);
     let mut back = [0; layout::REPORT_SIZE];
-    if let Verdict::Fine = table::write(table, &message, &mut back) {
-        keeper::report(keeper, &back);
+    if table::write(table, &message, &mut back).is_ok() {
+        let _ = keeper::report(keeper, &back);
     }
 }

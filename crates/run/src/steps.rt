@@ -45,12 +45,9 @@ pub(crate) fn all_packets(
         table.old keeper.old out.old (as_totals totals)
         table.new keeper.new out.new (as_totals result) }
 {
-    let n = trace.len() / layout::TRACE_SIZE;
     let mut sums = totals;
-    let mut i = 0;
-    while i < n {
+    for i in 0..trace.len() / layout::TRACE_SIZE {
         sums = step(policy, trace, i, table, keeper, out, sums);
-        i += 1;
     }
     sums
 }

@@ -12,7 +12,7 @@ use records::outcome::Outcome;
 
 // Packets, hits (outcome 1), misses (2 to 5), no rule (0) and evictions (3).
 #[repr(C)]
-#[derive(Clone, Copy)]
+#[derive(Clone, Copy, Debug, Default, PartialEq, Eq)]
 pub struct Totals {
     pub packets: u64,
     pub hits: u64,

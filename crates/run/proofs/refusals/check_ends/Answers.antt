@@ -7,7 +7,7 @@ use Rattle.run.proofs.refusals.check_ends.Goals as goal
 
 pub returns-then-not-slots_fit : goal.returns-then-not-slots_fit
 unfolding ends_refusal slots_refusal
-returns-then-not-slots_fit c = rw (sym c.slots_fit.ensures ∙ c.if-not-slots_fit.true) c.refused.ensures
+returns-then-not-slots_fit c = rw (sym c.slots_fit.ensures ∙ c.if-not-slots_fit.true)
 
 pub returns-then-not-slots_fit-2 : goal.returns-then-not-slots_fit-2
 unfolding ends_refusal slots_refusal
@@ -16,7 +16,6 @@ returns-then-not-slots_fit-2 c =
       sym c.slots_fit.ensures ∙ c.if-not-slots_fit.false,
       sym c.slots_fit-2.ensures ∙ c.if-not-slots_fit-2.true,
     )
-    c.refused-then-not-slots_fit-2.ensures
 
 -- nothing is refused; it stands first, so that a test that refuses too little fails here
 pub returns : goal.returns
@@ -36,4 +35,3 @@ returns-then-table-keeper c =
       sym c.slots_fit-2.ensures ∙ c.if-not-slots_fit-2.false,
       ne_eqb _ _ c.if-table-keeper.true,
     )
-    c.refused-then-table-keeper.ensures
