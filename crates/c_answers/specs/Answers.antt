@@ -1,5 +1,5 @@
 -- The numbers that C is told of an answer. A refusal: its number and its place, the rest 0. Assumes nothing.
-use Rattle.std.specs.Prelude.{Result, Ok, Err, ⊤, Option, None, Some}
+use Rattle.std.specs.Prelude.{ℕ, Result, Ok, Err, ⊤, Option, None, Some}
 use Rattle.ends.specs.Trace.{nothing}
 use Rattle.policy.specs.declared.search.BestRule.{BestRule}
 use Rattle.table.specs.declared.Hit.{Hit}

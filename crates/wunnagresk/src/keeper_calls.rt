@@ -8,19 +8,19 @@ pub fn wg_miss(policy: &[u8], key: &[u8], keeper: &mut [u8], out: &mut [u8]) -> 
     ensures { MissCall policy.now key.now keeper.old out.old result
         keeper.new out.new }
 {
-    c_answers::outcome::miss_for_c(miss::miss(policy, key, keeper, out))
+    miss::miss(policy, key, keeper, out).into()
 }
 
 // A report arrives.
 pub fn wg_report(keeper: &mut [u8], message: &[u8]) -> WgDone
     ensures { ReportCall keeper.old message.now result keeper.new }
 {
-    c_answers::done::done_for_c(keeper::report(keeper, message))
+    keeper::report(keeper, message).into()
 }
 
 // Writes the numbers of the open slots to the start of `out`, two bytes each.
 pub fn wg_open(keeper: &[u8], out: &mut [u8]) -> WgCount
     ensures { OpenCall keeper.now out.old result out.new }
 {
-    c_answers::count::count_for_c(keeper::open_list(keeper, out))
+    keeper::open_list(keeper, out).into()
 }

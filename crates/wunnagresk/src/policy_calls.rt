@@ -15,14 +15,14 @@ use c_answers::structs::{WgBestAnswer, WgCount, WgIsolated, WgPart, WgShown};
 pub fn wg_check(policy: &[u8]) -> WgCount
     ensures { result ≡ count_for_c (check_answer policy.now) }
 {
-    c_answers::count::count_for_c(policy::check(policy))
+    policy::check(policy).into()
 }
 
 // The best rule of a key.
 pub fn wg_best(policy: &[u8], key: &[u8]) -> WgBestAnswer
     ensures { result ≡ best_for_c (best_answer policy.now key.now) }
 {
-    c_answers::best::best_for_c(policy::best(policy, key))
+    policy::best(policy, key).into()
 }
 
 // Where the record of that number lies in the policy.
@@ -36,7 +36,7 @@ pub fn wg_rule(policy: &[u8], number: usize) -> WgPart
 pub fn wg_cover(policy: &[u8], number: usize, out: &mut [u8]) -> WgCount
     ensures { CoverCall policy.now number out.old result out.new }
 {
-    c_answers::count::count_for_c(cover::cover(policy, number, out))
+    cover::cover(policy, number, out).into()
 }
 
 // Isolates the key's best rule, and writes its pattern to the start of `out`, value then mask.
@@ -50,5 +50,5 @@ pub fn wg_isolate(policy: &[u8], key: &[u8], number: usize, out: &mut [u8]) -> W
 pub fn wg_show(policy: &[u8], key: &[u8], table: &[u8]) -> WgShown
     ensures { result ≡ show_for_c (show_answer policy.now key.now table.now) }
 {
-    c_answers::part::show_for_c(show::show_answer(policy, key, table))
+    show::show_answer(policy, key, table).into()
 }

@@ -16,7 +16,5 @@ pub fn wg_run(
     ensures { RunCall policy.now trace.now table.old keeper.old out.old
         totals.old result totals.new table.new keeper.new out.new }
 {
-    let told = c_answers::ran::run_with(policy, trace, table, keeper, out, *totals);
-    *totals = told.totals;
-    told.numbers
+    run::run(policy, trace, table, keeper, out, totals).into()
 }

@@ -7,12 +7,12 @@ use c_answers::structs::{WgDone, WgFound};
 pub fn wg_lookup(key: &[u8], table: &mut [u8], out: &mut [u8]) -> WgFound
     ensures { LookupCall key.now table.old out.old result table.new out.new }
 {
-    c_answers::lookup::lookup_for_c(table::lookup(key, table, out))
+    table::lookup(key, table, out).into()
 }
 
 // Receives a write; the report of its slot goes to the start of `out`.
 pub fn wg_write(table: &mut [u8], message: &[u8], out: &mut [u8]) -> WgDone
     ensures { WriteCall table.old message.now out.old result table.new out.new }
 {
-    c_answers::done::done_for_c(table::write(table, message, out))
+    table::write(table, message, out).into()
 }

@@ -5,10 +5,10 @@ use Rattle.policy.proofs.RecordShown.{record-shown, shown-below}
 use Rattle.c_answers.proofs.part.record_for_c.Goals as goal
 
 pub overflow_mul-result : goal.overflow_mul-result
-overflow_mul-result c = omega (arith, shown-below _ _ (record-shown _ _ (c.in-Fine.ensures)))
+overflow_mul-result c = omega (arith, shown-below _ _ (record-shown _ _ (c.in-Ok.ensures)))
 
-pub returns-in-Refused : goal.returns-in-Refused
-returns-in-Refused c = rw (sym c.in-Refused.ensures)
+pub returns-in-Err : goal.returns-in-Err
+returns-in-Err c = rw (sym c.in-Err.ensures, c.number.ensures, c.place.ensures)
 
-pub returns-in-Fine : goal.returns-in-Fine
-returns-in-Fine c = rw (sym c.in-Fine.ensures)
+pub returns-in-Ok : goal.returns-in-Ok
+returns-in-Ok c = rw (sym c.in-Ok.ensures)
