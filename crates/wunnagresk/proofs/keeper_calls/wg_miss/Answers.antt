@@ -6,4 +6,4 @@ use Rattle.wunnagresk.proofs.keeper_calls.wg_miss.Goals as goal
 pub returns : goal.returns
 returns c =
     let k = c.miss.ensures in
-    record { answer = c.miss_for_c.ensures ∙ ap miss_for_c k.answer; keeper-after = k.keeper-after; out-after = k.out-after }
+    record { answer = c.into.ensures ∙ ap miss_for_c k.answer; keeper-after = k.keeper-after; out-after = k.out-after }

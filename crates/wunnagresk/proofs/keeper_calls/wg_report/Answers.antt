@@ -6,4 +6,4 @@ use Rattle.wunnagresk.proofs.keeper_calls.wg_report.Goals as goal
 pub returns : goal.returns
 returns c =
     let k = c.report.ensures in
-    record { answer = c.done_for_c.ensures ∙ ap done_for_c k.answer; keeper-after = k.keeper-after }
+    record { answer = c.into.ensures ∙ ap done_for_c k.answer; keeper-after = k.keeper-after }

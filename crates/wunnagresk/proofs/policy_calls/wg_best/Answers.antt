@@ -4,4 +4,4 @@ use Rattle.c_answers.specs.Answers.{best_for_c}
 use Rattle.wunnagresk.proofs.policy_calls.wg_best.Goals as goal
 
 pub returns : goal.returns
-returns c = c.best_for_c.ensures ∙ ap best_for_c c.best.ensures
+returns c = c.into.ensures ∙ ap best_for_c c.best.ensures

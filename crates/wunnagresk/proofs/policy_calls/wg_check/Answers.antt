@@ -4,4 +4,4 @@ use Rattle.c_answers.specs.Answers.{count_for_c}
 use Rattle.wunnagresk.proofs.policy_calls.wg_check.Goals as goal
 
 pub returns : goal.returns
-returns c = c.count_for_c.ensures ∙ ap count_for_c c.check.ensures
+returns c = c.into.ensures ∙ ap count_for_c c.check.ensures

@@ -6,4 +6,4 @@ use Rattle.wunnagresk.proofs.policy_calls.wg_cover.Goals as goal
 pub returns : goal.returns
 returns c =
     let k = c.cover.ensures in
-    record { answer = c.count_for_c.ensures ∙ ap count_for_c k.answer; out-after = k.out-after }
+    record { answer = c.into.ensures ∙ ap count_for_c k.answer; out-after = k.out-after }

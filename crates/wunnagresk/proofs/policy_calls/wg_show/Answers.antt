@@ -4,4 +4,4 @@ use Rattle.c_answers.specs.Parts.{show_for_c}
 use Rattle.wunnagresk.proofs.policy_calls.wg_show.Goals as goal
 
 pub returns : goal.returns
-returns c = c.show_for_c.ensures ∙ ap show_for_c c.show_answer.ensures
+returns c = c.into.ensures ∙ ap show_for_c c.show_answer.ensures

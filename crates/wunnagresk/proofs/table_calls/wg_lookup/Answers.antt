@@ -6,4 +6,4 @@ use Rattle.wunnagresk.proofs.table_calls.wg_lookup.Goals as goal
 pub returns : goal.returns
 returns c =
     let k = c.lookup.ensures in
-    record { answer = c.lookup_for_c.ensures ∙ ap lookup_for_c k.answer; table-after = k.table-after; out-after = k.out-after }
+    record { answer = c.into.ensures ∙ ap lookup_for_c k.answer; table-after = k.table-after; out-after = k.out-after }

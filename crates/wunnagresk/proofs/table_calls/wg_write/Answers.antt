@@ -6,4 +6,4 @@ use Rattle.wunnagresk.proofs.table_calls.wg_write.Goals as goal
 pub returns : goal.returns
 returns c =
     let k = c.write.ensures in
-    record { answer = c.done_for_c.ensures ∙ ap done_for_c k.answer; table-after = k.table-after; out-after = k.out-after }
+    record { answer = c.into.ensures ∙ ap done_for_c k.answer; table-after = k.table-after; out-after = k.out-after }
