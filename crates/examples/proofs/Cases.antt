@@ -1,4 +1,5 @@
 -- The small policy's cases (a) to (k), together, by computation; and (k) for every key. Assumes nothing.
+use Rattle.std.specs.Prelude.{Ok, None}
 use mathlib.Core.Path.{◌≡◌, refl}
 use mathlib.Core.List.{List, [], map}
 use lib.ListN.{length}
@@ -21,7 +22,6 @@ use Rattle.policy.specs.Refusals.{policy_refusal}
 use Rattle.policy.specs.Best.{best_found}
 use Rattle.policy.specs.Answers.{best_refusal}
 use Rattle.policy.specs.BestAnswers.{best_answer}
-use Rattle.policy.specs.declared.BestAnswer.TheVariants.{NoRule}
 use Rattle.cover.specs.Answers.{cover_refusal}
 use Rattle.isolate.specs.Answers.{isolate_refusal, isolate_answer}
 use Rattle.examples.specs.Cases.{small_rule, small_bytes, Case, best_case, output, cover_case, isolate_case, small_cases}
@@ -35,6 +35,6 @@ unfolding all_below count_below most_below ahead foremost insert listed keep dig
 small_cases_lem = refl
 
 -- the empty policy has no best rule for any key
-pub empty-best : (key : List ℕ) → length key ≡ key_size → best_answer [] key ≡ NoRule
+pub empty-best : (key : List ℕ) → length key ≡ key_size → best_answer [] key ≡ Ok None
 unfolding best_answer best_refusal policy_refusal key_refusal first_flawed foremost best_found rules records_in best
 empty-best key l = rw (eq-eqb (length key) key_size l)

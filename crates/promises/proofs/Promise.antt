@@ -4,7 +4,7 @@ use mathlib.Core.Path.{◌≡◌, refl, sym, ap, ◌∙◌}
 use mathlib.Core.Logic.{◌≢◌}
 use mathlib.Core.List.Memᴰ
 use mathlib.Core.List.{List, [], ◌∷◌, Memᴰ}
-use Rattle.std.specs.Prelude.{Option, None, Some, Ok}
+use Rattle.std.specs.Prelude.{Option, None, Some, Ok, option_map}
 use Prim.Native.Nat.{ℕ, ◌*◌, ◌≤◌, ◌<◌}
 use native.Mathlib.Omega.{arith}
 use lib.ListN.{length, take}
@@ -37,7 +37,7 @@ use Rattle.policy.specs.Best.{best_found}
 use Rattle.policy.specs.Answers.{best_refusal}
 use Rattle.policy.specs.BestAnswers.{best_answer}
 use Rattle.policy.proofs.Acceptance.{accepted-bytes}
-use Rattle.table.specs.Lookups.{lookup_answer_of, lookup_answer}
+use Rattle.table.specs.Lookups.{hit_told, lookup_answer}
 use Rattle.table.specs.Writes.{write_call_refusal}
 use Rattle.table.proofs.ModelLaws.{taken_here, good-lookup}
 use Rattle.keeper.specs.Reports.{numbered, report_refused}
@@ -67,7 +67,7 @@ module _ (policy : List ℕ) (fine : policy_refusal policy ≡ None) {count : �
   t = slots key_size s.table
 
   best-here : (key : List ℕ) → length key ≡ key_size → (o : Option Hit) → lookup positions t key ≡ o
-      → MissOrBest (lookup_answer_of None o) (best_answer policy key)
+      → MissOrBest (Ok (option_map hit_told o)) (best_answer policy key)
   unfolding best_answer best_refusal best_found key_refusal meaning
   best-here key l None e = tt
   best-here key l (Some h) e = rw (fine, eq-eqb (length key) key_size l, kept.rule key h e, kept.action key h e)

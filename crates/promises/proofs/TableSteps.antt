@@ -18,7 +18,7 @@ use Rattle.slots.proofs.FindLaws.{held_below}
 use Rattle.end_records.specs.Writes.{decode_write}
 use Rattle.end_records.specs.Reports.{decode_report, ReportFits}
 use Rattle.table.specs.Lookups.{lookup_refusal, lookup_answer, table_after_lookup, LookedUp}
-use Rattle.table.specs.declared.LookupAnswer.{LookupAnswer}
+use Rattle.table.specs.declared.Hit.{Hit}
 use Rattle.table.proofs.SlotReports.{report-fits}
 use Rattle.table.specs.Writes.{write_call_refusal, table_after_write, Received}
 use Rattle.table.proofs.WriteLaws.{good-call}
@@ -33,7 +33,7 @@ module _ (p : PolicyView) {count : ℕ} {s : State} (f : Formed count s) where
   abbrev t : List Slot
   t = slots key_size s.table
 
-  module _ {key out : List ℕ} {r : LookupAnswer} {table' out' : List ℕ} (is : LookedUp key s.table out r table' out') where
+  module _ {key out : List ℕ} {r : Result (Option Hit) Refusal} {table' out' : List ℕ} (is : LookedUp key s.table out r table' out') where
     lookup-replaced : Replaced s.table table'
     lookup-replaced =
         let b = after_lookup_lem s.table f.table-bytes key (length out) in

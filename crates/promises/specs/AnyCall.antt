@@ -1,11 +1,11 @@
 -- No call is shut out from the sequences. Assumes nothing.
-use Rattle.std.specs.Prelude.{◌≡◌, List, ℕ, ◌≤◌, None, Result, ⊤}
+use Rattle.std.specs.Prelude.{◌≡◌, List, ℕ, ◌≤◌, None, Result, ⊤, Option}
 use Rattle.model.specs.Bits.{Bytes}
 use Rattle.ends.specs.Records.{Totals}
 use Rattle.records.specs.Layout.{most_slots}
 use Rattle.policy.specs.Refusals.{policy_refusal}
 use Rattle.table.specs.Lookups.{LookedUp}
-use Rattle.table.specs.declared.LookupAnswer.{LookupAnswer}
+use Rattle.table.specs.declared.Hit.{Hit}
 use Rattle.table.specs.Writes.{Received}
 use Rattle.keeper.specs.Reports.{Reported}
 use Rattle.keeper.specs.Opens.{Opened}
@@ -18,7 +18,7 @@ use Rattle.promises.specs.Calls.{State, cleared_ends, Call, Sequence, Throughout
 
 -- whatever its arguments, each call has an answer and leaves buffers as its function promises
 pub record AnyCall (s : State) : Type 0 where
-  pub lookups : (key out : List ℕ) → (r : LookupAnswer) × (table' : List ℕ) × (out' : List ℕ) × LookedUp key s.table out r table' out'
+  pub lookups : (key out : List ℕ) → (r : Result (Option Hit) Refusal) × (table' : List ℕ) × (out' : List ℕ) × LookedUp key s.table out r table' out'
   pub writes : (m out : List ℕ) → Bytes m
       → (r : Result ⊤ Refusal) × (table' : List ℕ) × (out' : List ℕ) × Received s.table m out r table' out'
   pub misses : (policy key out : List ℕ) → Bytes policy

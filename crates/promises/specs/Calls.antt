@@ -8,8 +8,7 @@ use Rattle.ternary.specs.Sizes.{key_size}
 use Rattle.records.specs.Layout.{slot_size, write_size, report_size}
 -- what the calls promise and when they refuse
 use Rattle.table.specs.Lookups.{LookedUp}
-use Rattle.table.specs.declared.LookupAnswer.{LookupAnswer}
-use Rattle.table.specs.declared.LookupAnswer.TheVariants.{Refused as LookupRefused, Miss, Hit}
+use Rattle.table.specs.declared.Hit.{Hit}
 use Rattle.table.specs.Writes.{write_call_refusal, Received}
 use Rattle.keeper.specs.Reports.{report_refused, Reported}
 use Rattle.keeper.specs.Opens.{Opened}
@@ -41,7 +40,7 @@ cleared_ends count =
 -- a call that was made on an end's buffer, or on both: its other arguments, its answer, and the buffers after it, those of the end or ends and of
 -- the output
 pub data Call : Type 0 where
-  lookup : (key out : List ℕ) → LookupAnswer → (table out' : List ℕ) → Call
+  lookup : (key out : List ℕ) → Result (Option Hit) Refusal → (table out' : List ℕ) → Call
   write : (message out : List ℕ) → Result ⊤ Refusal → (table out' : List ℕ) → Call
   miss : (policy key out : List ℕ) → Result OutcomeStruct Refusal → (keeper out' : List ℕ) → Call
   report : (message : List ℕ) → Result ⊤ Refusal → (keeper : List ℕ) → Call
@@ -69,10 +68,10 @@ Linked one s (open_slots out r out') = Unit {0}
 Linked one s (run policy trace out t r table' keeper' out') = run_refusal policy trace s.table s.keeper (length out) t ≡ None → policy ≡ one
 
 -- the message that a call gave, by its answer: the first bytes of the output after it
-abbrev pub lookup_gave : LookupAnswer → List ℕ → Option (List ℕ)
-lookup_gave (LookupRefused r) out = None
-lookup_gave Miss out = None
-lookup_gave (Hit slot rule action) out = Some (take report_size out)
+abbrev pub lookup_gave : Result (Option Hit) Refusal → List ℕ → Option (List ℕ)
+lookup_gave (Err r) out = None
+lookup_gave (Ok None) out = None
+lookup_gave (Ok (Some hit)) out = Some (take report_size out)
 
 abbrev pub write_gave : Result ⊤ Refusal → List ℕ → Option (List ℕ)
 write_gave (Err r) out = None

@@ -3,14 +3,14 @@ use Rattle.std.specs.Prelude.{◌≡◌, List, ℕ, Result, ⊤, Option}
 use Rattle.policy.specs.Answers.{check_answer}
 use Rattle.policy.specs.RecordAnswers.{record_answer, shown_record}
 use Rattle.policy.specs.BestAnswers.{best_answer}
-use Rattle.policy.specs.declared.BestAnswer.{BestAnswer}
+use Rattle.policy.specs.declared.search.BestRule.{BestRule}
 use Rattle.isolate.specs.Answers.{isolate_answer}
-use Rattle.isolate.specs.declared.IsolateAnswer.{IsolateAnswer}
+use Rattle.isolate.specs.declared.rounds.Isolated.{Isolated}
 use Rattle.show.specs.Answers.{show_answer, shown_part}
 use Rattle.show.specs.declared.Source.{Source}
 use Rattle.cover.specs.Answers.{Covered}
 use Rattle.table.specs.Lookups.{LookedUp}
-use Rattle.table.specs.declared.LookupAnswer.{LookupAnswer}
+use Rattle.table.specs.declared.Hit.{Hit}
 use Rattle.table.specs.Writes.{Received}
 use Rattle.keeper.specs.Reports.{Reported}
 use Rattle.keeper.specs.Opens.{Opened}
@@ -56,15 +56,15 @@ EquationLaw = (A B : Type 0) (f : A → B) → Single (Is f)
 -- the calls: input first, then the answer, with the buffers after the call where it leaves any
 pub record EachSingle : Type 0 where
   pub checks : Single (λ (policy : Buffer) (x : Result ℕ Refusal). x ≡ check_answer policy)
-  pub bests : Single (λ (a : Buffer × Buffer) (x : BestAnswer). x ≡ best_answer a.0 a.1)
+  pub bests : Single (λ (a : Buffer × Buffer) (x : Result (Option BestRule) Refusal). x ≡ best_answer a.0 a.1)
   -- of a part that is lent: its bytes
   pub records : Single (λ (a : Buffer × ℕ) (x : Buffer). x ≡ shown_record a.0 a.1)
   pub record-answers : Single (λ (a : Buffer × ℕ) (x : Result ⊤ Refusal). x ≡ record_answer a.0 a.1)
-  pub isolates : Single (λ (a : Buffer × Buffer × ℕ) (x : IsolateAnswer). x ≡ isolate_answer a.0 a.1 a.2)
+  pub isolates : Single (λ (a : Buffer × Buffer × ℕ) (x : Result Isolated Refusal). x ≡ isolate_answer a.0 a.1 a.2)
   pub shows : Single (λ (a : Buffer × Buffer × Buffer) (x : Buffer). x ≡ shown_part a.0 a.1 a.2)
   pub show-answers : Single (λ (a : Buffer × Buffer × Buffer) (x : Result (Option Source) Refusal). x ≡ show_answer a.0 a.1 a.2)
   pub covers : Single (λ (a : Buffer × ℕ × Buffer) (x : Result ℕ Refusal × Buffer). Covered a.0 a.1 a.2 x.0 x.1)
-  pub lookups : Single (λ (a : Buffer × Buffer × Buffer) (x : LookupAnswer × Buffer × Buffer). LookedUp a.0 a.1 a.2 x.0 x.1 x.2)
+  pub lookups : Single (λ (a : Buffer × Buffer × Buffer) (x : Result (Option Hit) Refusal × Buffer × Buffer). LookedUp a.0 a.1 a.2 x.0 x.1 x.2)
   pub writes : Single (λ (a : Buffer × Buffer × Buffer) (x : Result ⊤ Refusal × Buffer × Buffer). Received a.0 a.1 a.2 x.0 x.1 x.2)
   pub misses : Single (λ (a : Buffer × Buffer × Buffer × Buffer) (x : Result OutcomeStruct Refusal × Buffer × Buffer).
       Missed a.0 a.1 a.2 a.3 x.0 x.1 x.2)

@@ -1,5 +1,5 @@
 -- Demand 3 about bytes: what holds of the two ends' buffers at every point of every sequence of calls. Assumes nothing.
-use Rattle.std.specs.Prelude.{◌≡◌, ◌≢◌, ℕ, ◌*◌, ◌≤◌, ◌<◌, length, None, Ok}
+use Rattle.std.specs.Prelude.{◌≡◌, ◌≢◌, ℕ, ◌*◌, ◌≤◌, ◌<◌, length, None, Ok, Result, Err, Option, Some}
 use mathlib.Core.List.{List, Memᴰ}
 use Rattle.model.specs.Bits.{Bytes}
 use Rattle.ends.specs.Records.{Entry, entry_of}
@@ -10,21 +10,20 @@ use Rattle.records.specs.Layout.{report_size, most_slots}
 use Rattle.end_records.specs.Slots.{slot_in}
 use Rattle.policy.specs.Refusals.{policy_refusal}
 use Rattle.policy.specs.BestAnswers.{best_answer}
-use Rattle.policy.specs.declared.BestAnswer.{BestAnswer}
-use Rattle.policy.specs.declared.BestAnswer.TheVariants.{Rule}
+use Rattle.policy.specs.declared.search.BestRule.{BestRule}
 use Rattle.table.specs.Lookups.{lookup_answer}
-use Rattle.table.specs.declared.LookupAnswer.{LookupAnswer}
-use Rattle.table.specs.declared.LookupAnswer.TheVariants.{Refused, Miss, Hit}
+use Rattle.table.specs.declared.Hit.{Hit}
 use Rattle.table.specs.Writes.{write_call_refusal}
 use Rattle.keeper.specs.Reports.{report_refused}
 use Rattle.keeper.specs.Opens.{open_refusal, Opened}
+use Rattle.checks.specs.declared.refusal.Refusal.{Refusal}
 use Rattle.promises.specs.Calls.{State, cleared_ends, Call, Sequence, Throughout}
 
 -- a lookup's answer is a miss, or the best rule's number and that rule's action
-abbrev pub MissOrBest : LookupAnswer → BestAnswer → Type 0
-MissOrBest (Refused r) best = ⊥
-MissOrBest Miss best = Unit {0}
-MissOrBest (Hit slot rule action) best = best ≡ Rule rule action
+abbrev pub MissOrBest : Result (Option Hit) Refusal → Result (Option BestRule) Refusal → Type 0
+MissOrBest (Err r) best = ⊥
+MissOrBest (Ok None) best = Unit {0}
+MissOrBest (Ok (Some hit)) best = best ≡ Ok (Some (record { number = hit.rule; action = hit.action }))
 
 -- the entry that the 40 bytes of slot i decode to
 abbrev pub entry_of_bytes : List ℕ → ℕ → Entry
