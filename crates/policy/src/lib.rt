@@ -15,6 +15,7 @@ use checks::refusal::Refusal;
 use records::layout;
 
 // How many rules an accepted policy has: refusals 1, 2 and 3, the last with the place of the first flawed record. It changes nothing.
+#[tactic(auto, unfolding(crate::specs::Answers::check_answer, crate::specs::Refusals::policy_refusal))]
 pub fn check(policy: &[u8]) -> Result<usize, Refusal>
     ensures { result ≡ check_answer policy.now }
 {
