@@ -7,24 +7,23 @@ use lib.ListN.{length, take, drop, length-append}
 use lib.Seq.{length-take-le}
 use Rattle.buffers.specs.Parts.{splice}
 use Rattle.buffers.proofs.PartLaws.{splice-next}
-use Rattle.text.specs.Line.{line_size, text_of, Says}
-use Rattle.text.specs.declared.Line.{Line}
+use Rattle.text.specs.Line.{line_size}
 use Rattle.lines.specs.Listing.{TextPut}
-use Rattle.lines.proofs.TextLaws.{line-short}
 
 -- one line at the start
-pub line-alone : {text : List ℕ} {line : Line} {out out' : List ℕ} {m : ℕ} → Says text line → out' ≡ splice 0 (text_of line) out
-    → m ≡ 0 + length (text_of line) → TextPut text out m out'
-line-alone s e n = record { whole = e ∙ rw s.says; count = omega (arith, ap length s.says) }
+pub line-alone : {text : List ℕ} {line out out' : List ℕ} {m : ℕ} → line ≡ text → out' ≡ splice 0 line out → m ≡ 0 + length line
+    → TextPut text out m out'
+line-alone s e n = record { whole = e ∙ rw s; count = omega (arith, ap length s) }
 
 -- one line more
-pub line_after : {front text : List ℕ} {line : Line} {out out₁ out₂ : List ℕ} {at m : ℕ} → TextPut front out at out₁ → Says text line
-    → out₂ ≡ splice at (text_of line) out₁ → m ≡ at + length (text_of line) → at + line_size ≤ length out → TextPut (front ++ text) out m out₂
-line_after {front} {text} {line} {out} {out₁} {out₂} {at} p s e n room =
-    let next : splice at (text_of line) out₁ ≡ splice at text (splice 0 front out) = rw (s.says, p.whole) in
+pub line_after : {front text line out out₁ out₂ : List ℕ} {at m : ℕ} → TextPut front out at out₁ → line ≡ text → out₂ ≡ splice at line out₁
+    → m ≡ at + length line → m ≤ at + line_size → at + line_size ≤ length out → TextPut (front ++ text) out m out₂
+line_after {front} {text} {line} {out} {out₁} {out₂} {at} p s e n short room =
+    let next : splice at line out₁ ≡ splice at text (splice 0 front out) = rw (s, p.whole) in
+    let long : length line ≡ length text = ap length s in
     record {
-      whole = e ∙ next ∙ splice-next 0 at front text out (omega (arith, p.count)) (omega (arith, line-short s));
-      count = simp length-append (omega (arith, p.count, ap length s.says));
+      whole = e ∙ next ∙ splice-next 0 at front text out (omega (arith, p.count)) (omega arith);
+      count = simp length-append (omega (arith, p.count));
     }
 
 -- the same text, said otherwise

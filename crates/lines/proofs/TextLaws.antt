@@ -1,20 +1,15 @@
 -- Lines written one after another from an output's start. Assumes nothing.
 use mathlib.Core.Path.{◌≡◌, refl, ap, ◌∙◌}
 use mathlib.Core.List.{List, ◌++◌}
-use Prim.Native.Nat.{ℕ, suc, ◌+◌, ◌-◌, ◌*◌, ◌≤◌, ◌<◌}
+use Prim.Native.Nat.{ℕ, suc, ◌+◌, ◌*◌, ◌≤◌, ◌<◌}
 use native.Mathlib.Numerals.{add-one}
 use native.Mathlib.Omega.{arith}
-use lib.ListN.{length, take, drop, get_or, length-append, length-drop}
+use lib.ListN.{length, take, get_or, length-append}
 use lib.Seq.{take-suc, take_all}
 use Rattle.buffers.specs.Parts.{splice, spelled}
 use Rattle.buffers.proofs.PartLaws.{splice-next}
 use Rattle.buffers.proofs.RowLaws.{spelled-more}
-use Rattle.text.specs.Line.{line_size, text_of, Says}
-use Rattle.text.specs.declared.Line.{Line}
-
--- a line is no longer than its room
-pub line-short : {text : List ℕ} {line : Line} → Says text line → length text ≤ line_size
-line-short {text} {line} s = omega (arith, ap length s.says, length-drop line.at line.bytes, s.size)
+use Rattle.text.specs.Line.{line_size}
 
 -- the first i of the records xs are spelled at the start of the output
 pub record Spelt {A : Type 0} (f : A → List ℕ) (xs : List A) (out₀ : List ℕ) (i : ℕ) (out : List ℕ) (at : ℕ) : Type 0 where
@@ -29,19 +24,17 @@ module _ {A : Type 0} (f : A → List ℕ) (xs : List A) (out₀ : List ℕ) whe
   spelt-none = record { below = omega arith; text = refl; place = refl; small = omega arith }
 
   module _ {i at : ℕ} {out : List ℕ} (s : Spelt f xs out₀ i out at) where
-    pub spelt-more : (d : A) {line : Line} {out' : List ℕ} {at' : ℕ} → i < length xs → line_size * length xs ≤ length out₀
-        → Says (f (get_or xs i d)) line → out' ≡ splice at (text_of line) out → at' ≡ at + length (text_of line)
-        → Spelt f xs out₀ (i + 1) out' at'
-    spelt-more d {line} l room a e n =
+    pub spelt-more : (d : A) {line : List ℕ} {out' : List ℕ} {at' : ℕ} → i < length xs → line_size * length xs ≤ length out₀
+        → line ≡ f (get_or xs i d) → out' ≡ splice at line out → at' ≡ at + length line → at' ≤ at + line_size → Spelt f xs out₀ (i + 1) out' at'
+    spelt-more d {line} l room a e n short =
         let front = spelled f (take i xs) in
         let word = f (get_or xs i d) in
         let longer : spelled f (take (suc i) xs) ≡ front ++ word =
         ap (spelled f) (take-suc xs i d l) ∙ spelled-more f (take i xs) (get_or xs i d)
         in
-        let short : length word ≤ line_size = line-short a in
-        let long : length (text_of line) ≡ length word = ap length a.says in
+        let long : length line ≡ length word = ap length a in
         let fits : at + length word ≤ length out₀ = omega (arith, s.small) in
-        let next : splice at (text_of line) out ≡ splice at word (splice 0 front out₀) = rw (a.says, s.text) in
+        let next : splice at line out ≡ splice at word (splice 0 front out₀) = rw (a, s.text) in
         record {
           below = omega arith;
           text =
@@ -54,7 +47,3 @@ module _ {A : Type 0} (f : A → List ℕ) (xs : List A) (out₀ : List ℕ) whe
     spelt-all l =
         let all : take i xs ≡ xs = take_all i xs l in
         (rw all at s.text, rw all at s.place)
-
--- a line's text as it is lent: the bytes of its array from `at` on
-pub lent : (bytes : List ℕ) (at : ℕ) → length bytes ≡ line_size → take (line_size - at) (drop at bytes) ≡ drop at bytes
-lent bytes at e = take_all (line_size - at) (drop at bytes) (simp length-drop (omega arith))

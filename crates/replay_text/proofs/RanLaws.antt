@@ -5,6 +5,7 @@ use Rattle.std.specs.Prelude.{Some, Result, Ok, Err}
 use Prim.Native.Nat.{ℕ}
 use Rattle.ends.specs.Records.{Totals}
 use Rattle.checks.specs.declared.refusal.Refusal.{Refusal}
+use Rattle.checks.specs.Refusals.{number_of, place_of}
 use Rattle.lines.specs.Printed.{totals_line, refusal_line}
 use Rattle.lines.specs.Listing.{lines_in, TextPut}
 use Rattle.lines.proofs.PutLaws.{same-put}
@@ -13,7 +14,7 @@ use Rattle.replay_text.proofs.FileLaws.{Taken, files-refused, files-taken}
 use Rattle.replay_text.specs.Text.{ran_text, outcomes_from, call_refusal, text_for, text_of_replay}
 
 module _ {a : Result ℕ Refusal} (t : Totals) (records : List ℕ) {out : List ℕ} {m : ℕ} {out' : List ℕ} where
-  pub refused-put : {r : Refusal} → a ≡ Err r → TextPut (refusal_line r.number r.place) out m out'
+  pub refused-put : {r : Refusal} → a ≡ Err r → TextPut (refusal_line (number_of r) (place_of r)) out m out'
       → TextPut (ran_text a t records) out m out'
   refused-put e p = rw e p
 
@@ -21,7 +22,7 @@ module _ {a : Result ℕ Refusal} (t : Totals) (records : List ℕ) {out : List 
   packets-put e p = rw e p
 
 module _ (slots policy trace : List ℕ) where
-  refused-text : {r : Refusal} → file_refusal slots policy trace ≡ Some r → refusal_line r.number r.place ≡ text_of_replay slots policy trace
+  refused-text : {r : Refusal} → file_refusal slots policy trace ≡ Some r → refusal_line (number_of r) (place_of r) ≡ text_of_replay slots policy trace
   unfolding text_of_replay
   refused-text e = rw e
 
@@ -31,7 +32,7 @@ module _ (slots policy trace : List ℕ) where
   run-text t = rw (t.fine, t.count)
 
   module _ {a : Result ℕ Refusal} (is : a ≡ file_answer slots policy trace) {out : List ℕ} {m : ℕ} {out' : List ℕ} where
-    pub text-refused : {r : Refusal} → a ≡ Err r → TextPut (refusal_line r.number r.place) out m out'
+    pub text-refused : {r : Refusal} → a ≡ Err r → TextPut (refusal_line (number_of r) (place_of r)) out m out'
         → TextPut (text_of_replay slots policy trace) out m out'
     text-refused e p = same-put (refused-text (files-refused slots policy trace (sym is ∙ e))) p
 

@@ -5,7 +5,7 @@ use Rattle.ends.specs.Totals.{cleared_totals, totals_after}
 use Rattle.ternary.specs.Sizes.{key_size}
 use Rattle.buffers.specs.Parts.{spelled}
 use Rattle.records.specs.Layout.{slot_size, most_packets}
-use Rattle.checks.specs.Refusals.{or_else}
+use Rattle.checks.specs.Refusals.{or_else, number_of, place_of}
 use Rattle.checks.specs.declared.refusal.Refusal.{Refusal}
 use Rattle.records.specs.Outcomes.{decode_outcome, encode_outcome}
 use Rattle.totals.specs.Sums.{as_totals}
@@ -16,8 +16,7 @@ use Rattle.run.specs.Runs.{Ran}
 use Rattle.text.specs.Line.{line_size}
 use Rattle.lines.specs.Printed.{outcome_line, totals_line, refusal_line}
 use Rattle.lines.specs.Listing.{lines_in}
-use Rattle.text.specs.SlotsText.{slots_in}
-use Rattle.replay_text.specs.Files.{file_refusal}
+use Rattle.replay_text.specs.Files.{slots_of, file_refusal}
 
 -- an end of n cleared slots
 abbrev pub cleared_end : ℕ → List ℕ
@@ -41,17 +40,17 @@ call_refusal policy trace = or_else (policy_refusal policy) (trace_refusal trace
 
 -- the refusal's line alone, or the run
 abbrev pub text_for : Option Refusal → List Outcome → List ℕ
-text_for (Some r) xs = refusal_line r.number r.place
+text_for (Some r) xs = refusal_line (number_of r) (place_of r)
 text_for None xs = run_text xs
 
 -- slots.txt 4; policy file 2; trace file 2; then the library's order
 unfoldable pub text_of_replay : List ℕ → List ℕ → List ℕ → List ℕ
 text_of_replay slots policy trace =
-    text_for (or_else (file_refusal slots policy trace) (call_refusal policy trace)) (outcomes_from (slots_in slots) policy trace)
+    text_for (or_else (file_refusal slots policy trace) (call_refusal policy trace)) (outcomes_from (slots_of slots) policy trace)
 
 -- what is printed of a run that answered this, with these totals, and whose output is `records`
 abbrev pub ran_text : Result ℕ Refusal → Totals → List ℕ → List ℕ
-ran_text (Err r) t records = refusal_line r.number r.place
+ran_text (Err r) t records = refusal_line (number_of r) (place_of r)
 ran_text (Ok n) t records = lines_in n records ++ totals_line t
 
 -- how many packets it had

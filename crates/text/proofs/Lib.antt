@@ -1,6 +1,4 @@
--- Laws of decimals and of lines.
+-- Laws of decimals.
 pub mod DecimalLaws
-pub mod LineLaws
 -- Laws of what slots.txt says.
-pub mod DigitLaws
 pub mod SlotsTextLaws

@@ -1,213 +1,179 @@
--- What slots.txt says is what reading it byte by byte gives. Assumes nothing.
-use mathlib.Core.Path.{◌≡◌, refl, sym, ap, ◌∙◌}
-use mathlib.Core.Bool.{true, cond}
+-- What slots.txt says is what the library's `parse` gives of what stands before its newline. Assumes nothing.
+use mathlib.Core.Path.{◌≡◌, refl, sym, ap, subst, ◌∙◌}
+use mathlib.Core.Bool.{true, false}
 use mathlib.Core.List.{List, [], ◌∷◌, ◌++◌}
-use Rattle.std.specs.Prelude.{Option, None, Some}
-use Prim.Native.Nat.{ℕ, suc, ◌+◌, ◌-◌, ◌*◌, ◌%◌, ◌≤◌, ◌<◌}
+use Prim.Native.Nat.{ℕ, zero, suc, ◌+◌, ◌-◌, ◌^◌, ◌≤◌, ◌<◌}
 use native.Mathlib.Omega.{arith}
-use borrow.Author.Tests.{ltb-false, leb-true, leb-false, eqb-true, eqb-false, lt-ltb, le-ltb, eq-eqb, ne_eqb, le-leb}
-use lib.Dec.{leb, ltb, eqb}
-use lib.ListN.{length, take, get_or}
-use lib.Seq.{take-suc, take_all, length-take-le}
-use Rattle.model.specs.Below.{all_below, first_below}
-use Rattle.model.proofs.Cases.{by_cases, clash, cond-elim, and_left, and_right, both}
-use Rattle.model.proofs.BelowLaws.{all-at}
+use borrow.Author.Tests.{leb-true, le-leb}
+use lib.Dec.{leb, eqb}
+use lib.ListN.{length, take, drop, get_or}
+use lib.Pointwise.{pointwise}
+use Rattle.std.proofs.Common.{Option, None, Some, Result, Ok, Err, Bor, slice_get}
+use Rattle.std.proofs.lemmas.Option.{unwrap_or-slice_get}
+use Rattle.std.specs.Result.{result_ok}
+use Rattle.std.specs.Option.{MatchOption, option_copied, unwrap_or}
+use Rattle.std.proofs.lemmas.Fmt.{parse-decimal, decimal_is_IsNumeral, decimal_injective, decimal-digits_value, first_decimal, IsAscii-decimal}
+use Rattle.std.proofs.lemmas.List.{append_cancel_right}
+use Rattle.std.proofs.lemmas.Bool.Decides.{Decides-eqb}
+use Rattle.std.proofs.lemmas.Slice.Eq.{bytes_eq-Decides, strip_suffix_is}
+use Rattle.std.proofs.lemmas.Str.{IsUtf8-from_ascii}
+use Rattle.std.proofs.lemmas.Str.Parse.{numerals_by_value, tells_digits, digit_at, without_leading_plus_none}
+use Rattle.std.specs.Fmt.{decimal as printed}
+use Rattle.std.specs.Str.{IsUtf8, bytes_eq}
+use Rattle.std.specs.Str.Parse.{AllDigits, digits_value, ParsesUnsigned}
+use Rattle.model.specs.Below.{first_below}
+use Rattle.model.proofs.Cases.{clash, and_left, and_right, both}
 use Rattle.model.proofs.OrderLaws.{first-at, foremost-none}
 use Rattle.records.specs.Layout.{most_slots}
-use Rattle.text.specs.Decimal.{digit, decimal_in, decimal, number_from, number_in}
+use Rattle.text.specs.Decimal.{decimal_in, decimal}
 use Rattle.text.specs.Words.{newline, line_of}
-use Rattle.text.proofs.DecimalLaws.{decimal-one, decimal-number, number-digit, was-digit}
-use Rattle.text.specs.SlotsText.{same, says_slots, slots_in}
+use Rattle.text.proofs.DecimalLaws.{decimal-printed}
+use Rattle.text.specs.SlotsText.{says_slots, slots_in}
 
--- ---- the same bytes
+-- a number from 1 to 256 and the text that says it
+record Said (text : List ℕ) (n : ℕ) : Type 0 where
+  pub some : 1 ≤ n
+  pub few : n ≤ most_slots
+  pub line : text ≡ line_of (decimal n ∷ [])
 
-same-is : (xs ys : List ℕ) → same xs ys ≡ true → xs ≡ ys
-unfolding same
-same-is [] [] h = refl
-same-is [] (y ∷ ys) h = clash refl (sym h)
-same-is (x ∷ xs) [] h = clash refl (sym h)
-same-is (x ∷ xs) (y ∷ ys) h =
-    let e : x ≡ y = eqb-true x y (and_left (eqb x y) (same xs ys) h) in
-    let f : xs ≡ ys = same-is xs ys (and_right (eqb x y) (same xs ys) h) in
-    rw (e, f)
+module _ (text : List ℕ) where
+  said-test : (n : ℕ) → Said text n → says_slots text n ≡ true
+  unfolding says_slots
+  said-test n s = both (le-leb 1 n s.some) ((bytes_eq-Decides text (line_of (decimal n ∷ []))).1 s.line)
 
-is_same : (xs : List ℕ) → same xs xs ≡ true
-unfolding same
-is_same [] = refl
-is_same (x ∷ xs) = rw (eq-eqb x x refl) (is_same xs)
+  test-said : (n : ℕ) → n < suc most_slots → says_slots text n ≡ true → Said text n
+  unfolding says_slots
+  test-said n l h =
+      record {
+        some = leb-true 1 n (and_left (leb 1 n) (bytes_eq text (line_of (decimal n ∷ []))) h);
+        few = omega arith;
+        line =
+            (bytes_eq-Decides text (line_of (decimal n ∷ []))).0 (and_right (leb 1 n) (bytes_eq text (line_of (decimal n ∷ []))) h);
+      }
 
--- ---- reading the text byte by byte
+  -- the line of one number is not that of another
+  said-once : (m n : ℕ) → Said text m → Said text n → m ≡ n
+  said-once m n s t =
+      let e : decimal m ≡ decimal n = append_cancel_right (decimal m) (decimal n) (newline ∷ []) (sym s.line ∙ t.line) in
+      let a : m < 2 ^ 64 = omega (arith, s.few) in
+      let b : n < 2 ^ 64 = omega (arith, t.few) in
+      decimal_injective m n a b (sym (decimal-printed m a) ∙ e ∙ decimal-printed n b)
 
-unfoldable read_slots : List ℕ → ℕ
-read_slots text =
-    let last = length text - 1 in
-    let n = number_in (take last text) in
-    cond (ltb (length text) 2) 0
-    (cond (ltb 4 (length text)) 0
-    (cond (eqb (get_or text last 0) newline) (cond (eqb (get_or text 0 0) 48) 0 (cond (ltb most_slots n) 0 n)) 0))
+  slots-said : (n : ℕ) → slots_in text ≡ Some n → Said text n
+  unfolding slots_in
+  slots-said n = go (first_below (says_slots text) (suc most_slots)) refl
+    where
+      go : (o : Option ℕ) → first_below (says_slots text) (suc most_slots) ≡ o → o ≡ Some n → Said text n
+      go None e h = cc
+      go (Some m) e h =
+          let f = first-at (says_slots text) (suc most_slots) m e in
+          let i : m ≡ n = cc in
+          rw i at (test-said m f.0 f.1)
 
--- the text passed every test, and gives r
-record Read (text : List ℕ) (r : ℕ) : Type 0 where
-  pub Some : 1 ≤ r
-  pub few : r ≤ most_slots
-  pub long : 2 ≤ length text
-  pub short : length text ≤ 4
-  pub ended : get_or text (length text - 1) 0 ≡ newline
-  no_zero : get_or text 0 0 ≡ 48 → ⊥
-  pub number : r ≡ number_in (take (length text - 1) text)
+  said-slots : (n : ℕ) → Said text n → Some n ≡ slots_in text
+  unfolding slots_in
+  said-slots n s = go (first_below (says_slots text) (suc most_slots)) refl
+    where
+      go : (o : Option ℕ) → first_below (says_slots text) (suc most_slots) ≡ o → Some n ≡ o
+      go None e =
+          clash (said-test n s) (foremost-none (says_slots text) _ (suc most_slots) e n (omega (arith, s.few)))
+      go (Some m) e =
+          let f = first-at (says_slots text) (suc most_slots) m e in
+          ap Some (said-once n m s (test-said m f.0 f.1))
 
-read-passed : (text : List ℕ) → 1 ≤ read_slots text → Read text (read_slots text)
-unfolding read_slots
-read-passed text =
-    let P : ℕ → Type 0 = λ r. 1 ≤ r → Read text r in
-    let zero : P 0 = λ h. absurd (omega arith) in
-    let n = number_in (take (length text - 1) text) in
-    cond-elim P (ltb (length text) 2) (λ e. zero)
-    (λ a. cond-elim P (ltb 4 (length text)) (λ e. zero)
-    (λ b. cond-elim P (eqb (get_or text (length text - 1) 0) newline)
-    (λ c. cond-elim P (eqb (get_or text 0 0) 48) (λ e. zero)
-    (λ d. cond-elim P (ltb most_slots n) (λ e. zero)
-    (λ f h. record {
-      Some = h;
-      few = ltb-false most_slots n f;
-      long = ltb-false (length text) 2 a;
-      short = ltb-false 4 (length text) b;
-      ended = eqb-true (get_or text (length text - 1) 0) newline c;
-      no_zero = eqb-false (get_or text 0 0) 48 d;
-      number = refl;
-    })))
-    (λ e. zero)))
+  none-said : ((n : ℕ) → Said text n → ⊥) → None ≡ slots_in text
+  none-said other = go (slots_in text) refl
+    where
+      go : (o : Option ℕ) → slots_in text ≡ o → None ≡ o
+      go None e = refl
+      go (Some n) e = absurd (other n (slots-said n e))
 
--- every number's line is read as that number
-each_read : all_below (λ n. eqb (read_slots (line_of (decimal n ∷ []))) n) (suc most_slots) ≡ true
-unfolding read_slots all_below decimal_in number_from
-each_read = refl
+  pub slots-some : (n : ℕ) → slots_in text ≡ Some n → 1 ≤ n
+  slots-some n e = (slots-said n e).some
 
--- a text without its last byte, and that byte
-cut-last : (xs : List ℕ) → 1 ≤ length xs → xs ≡ take (length xs - 1) xs ++ (get_or xs (length xs - 1) 0 ∷ [])
-cut-last xs l =
-    let e : suc (length xs - 1) ≡ length xs = omega arith in
-    sym (take_all (suc (length xs - 1)) xs (omega arith)) ∙ take-suc xs (length xs - 1) 0 (omega arith)
-
--- a first digit that is not 0, and digits after it, are the decimal of the number that they spell
-whole-decimal : (x : ℕ) (ds : List ℕ) → (x ≡ 48 → ⊥) → length ds < 20 → 1 ≤ number_in (x ∷ ds) → decimal (number_in (x ∷ ds)) ≡ x ∷ ds
-whole-decimal x ds z l h =
-    let b = was-digit 0 x ds h in
-    let n = 0 * 10 + (x - 48) in
-    let m : n < 10 = omega arith in
-    let d : digit (n % 10) ≡ x = omega arith in
-    let r : 1 ≤ number_from n ds = rw (number-digit 0 x ds b.0 b.1) at h in
-    let k : 20 ≡ suc (19 - length ds) + length ds = omega arith in
-    rw (number-digit 0 x ds b.0 b.1)
-    (ap (λ (j : ℕ). decimal_in j (number_from n ds)) k
-    ∙ decimal-number (suc (19 - length ds)) n ds (omega arith) r
-    ∙ rw (decimal-one (19 - length ds) n m, d))
-
--- a text that passed every test is the line of its number
-read-says : (text : List ℕ) (r : ℕ) → Read text r → text ≡ line_of (decimal r ∷ [])
-read-says [] r p = absurd (omega (arith, p.long))
-read-says (x ∷ xs) r p =
-    let k = length xs - 1 in
-    let i : length (x ∷ xs) - 1 ≡ suc k = omega (arith, p.long) in
-    let ended : get_or xs k 0 ≡ newline = sym (ap (λ (j : ℕ). get_or (x ∷ xs) j 0) i) ∙ p.ended in
-    let cut : xs ≡ take k xs ++ (newline ∷ []) = cut-last xs (omega (arith, p.long)) ∙ rw ended in
-    let number : r ≡ number_in (x ∷ take k xs) = p.number ∙ ap (λ (j : ℕ). number_in (take j (x ∷ xs))) i in
-    let few : length (take k xs) < 20 = omega (arith, length-take-le k xs (omega arith), p.short) in
-    let spelt : decimal (number_in (x ∷ take k xs)) ≡ x ∷ take k xs =
-    whole-decimal x (take k xs) p.no_zero few (omega (arith, p.some, number)) in
-    ap (λ (l : List ℕ). x ∷ l) cut ∙ sym (rw (number, spelt))
-
--- ---- what the text says is what is read
-
-line_read : (text : List ℕ) (n : ℕ) → n < suc most_slots → says_slots text n ≡ true → read_slots text ≡ n
-unfolding says_slots
-line_read text n l h =
-    let e : text ≡ line_of (decimal n ∷ []) =
-    same-is text (line_of (decimal n ∷ [])) (and_right (leb 1 n) (same text (line_of (decimal n ∷ []))) h)
-    in
-    let f = all-at (λ m. eqb (read_slots (line_of (decimal m ∷ []))) m) (suc most_slots) each_read n l in
-    ap read_slots e ∙ eqb-true (read_slots (line_of (decimal n ∷ []))) n f
-
-read-line : (text : List ℕ) (r : ℕ) → Read text r → says_slots text r ≡ true
-unfolding says_slots
-read-line text r p =
-    let e = read-says text r p in
-    let s : same text (line_of (decimal r ∷ [])) ≡ true = ap (same text) (sym e) ∙ is_same text in
-    both (le-leb 1 r p.some) s
-
-slots_read : (text : List ℕ) → slots_in text ≡ read_slots text
-unfolding slots_in
-slots_read text = go (first_below (says_slots text) (suc most_slots)) refl
-  where
-    none_read : first_below (says_slots text) (suc most_slots) ≡ None → 1 ≤ read_slots text → 0 ≡ read_slots text
-    none_read e h =
-        let p = read-passed text h in
-        clash (read-line text (read_slots text) p) (foremost-none (says_slots text) ltb (suc most_slots) e (read_slots text) (omega (arith, p.few)))
-
-    go : (o : Option ℕ) → first_below (says_slots text) (suc most_slots) ≡ o → Option.get_or o 0 ≡ read_slots text
-    go None e = by_cases (leb 1 (read_slots text)) (λ h. none_read e (leb-true 1 (read_slots text) h)) (λ h. omega (arith, leb-false))
-    go (Some n) e =
-        let f = first-at (says_slots text) (suc most_slots) n e in
-        sym (line_read text n f.0 f.1)
-
-pub slots-few : (text : List ℕ) → slots_in text ≤ most_slots
-unfolding slots_in
-slots-few text = go (first_below (says_slots text) (suc most_slots)) refl
-  where
-    go : (o : Option ℕ) → first_below (says_slots text) (suc most_slots) ≡ o → Option.get_or o 0 ≤ most_slots
-    go None e = omega arith
-    go (Some n) e = omega (arith, (first-at (says_slots text) (suc most_slots) n e).0)
+  pub slots-few : (n : ℕ) → slots_in text ≡ Some n → n ≤ most_slots
+  slots-few n e = (slots-said n e).few
 
 -- ---- what is read, test by test
 
-module _ (text : List ℕ) where
-  pub too_short : length text < 2 → 0 ≡ slots_in text
-  unfolding read_slots
-  too_short l = rw (slots_read text, lt-ltb (length text) 2 l)
+-- what `strip_suffix` answers of a newline at the text's end
+abbrev pub Stripping : List ℕ → Option (Bor (List ℕ)) → Type 0
+Stripping text r =
+    let ends = pointwise eqb (drop (length text - 1) text) (newline ∷ []) in
+    MatchOption r (ends ≡ false) (λ (x : Bor (List ℕ)). (ends ≡ true) × (x.now ≡ take (length text - 1) text) × (length x.now + 1 ≡ length text))
 
-  module _ (long : 2 ≤ length text) where
-    pub too_long : 4 < length text → 0 ≡ slots_in text
-    unfolding read_slots
-    too_long l = rw (slots_read text, le-ltb (length text) 2 long, lt-ltb 4 (length text) l)
+module _ (text : List ℕ) {r : Option (Bor (List ℕ))} (cases : Stripping text r) where
+  pub no-newline : r ≡ None → None ≡ slots_in text
+  no-newline e =
+      let other = rw e at (strip_suffix_is Decides-eqb text (newline ∷ []) r cases) in
+      none-said text (λ n s. other (decimal n) s.line)
 
-    module _ (short : length text ≤ 4) where
-      pub no-newline : (get_or text (length text - 1) 0 ≡ newline → ⊥) → 0 ≡ slots_in text
-      unfolding read_slots
-      no-newline l =
-          rw (
-            slots_read text,
-            le-ltb (length text) 2 long,
-            le-ltb 4 (length text) short,
-            ne_eqb (get_or text (length text - 1) 0) newline l,
-          )
+  pub stripped : {x : Bor (List ℕ)} → r ≡ Some x → text ≡ x.now ++ (newline ∷ [])
+  stripped e = rw e at (strip_suffix_is Decides-eqb text (newline ∷ []) r cases)
 
-      module _ (ended : get_or text (length text - 1) 0 ≡ newline) where
-        pub leading-zero : get_or text 0 0 ≡ 48 → 0 ≡ slots_in text
-        unfolding read_slots
-        leading-zero l =
-            rw (
-              slots_read text,
-              le-ltb (length text) 2 long,
-              le-ltb 4 (length text) short,
-              eq-eqb (get_or text (length text - 1) 0) newline ended,
-              eq-eqb (get_or text 0 0) 48 l,
-            )
+-- what `first` says of the first byte
+pub first-byte : (digits : List ℕ) (r : Option (Bor ℕ)) → option_copied r ≡ slice_get digits 0 → unwrap_or (option_copied r) 0 ≡ get_or digits 0 0
+first-byte digits r e = ap (λ (o : Option ℕ). unwrap_or o 0) e ∙ unwrap_or-slice_get digits 0 0
 
-        module _ {n : ℕ} (first : get_or text 0 0 ≡ 48 → ⊥) (is : n ≡ number_in (take (length text - 1) text)) where
-          all-passed : cond (ltb most_slots n) 0 n ≡ slots_in text
-          unfolding read_slots
-          all-passed =
-              rw (
-                slots_read text,
-                le-ltb (length text) 2 long,
-                le-ltb 4 (length text) short,
-                eq-eqb (get_or text (length text - 1) 0) newline ended,
-                ne_eqb (get_or text 0 0) 48 first,
-                is,
-              )
+-- what `ok` says of a result
+pub value-of : {T E : Type 0} (r : Result T E) (x : T) → Some x ≡ result_ok r → r ≡ Ok x
+value-of (Ok y) x e = cc
+value-of (Err y) x e = cc
 
-          pub too_large : most_slots < n → 0 ≡ slots_in text
-          too_large l = rw (lt-ltb most_slots n l) at all-passed
+pub fault-of : {T E : Type 0} (r : Result T E) → None ≡ result_ok r → (e : E) × (r ≡ Err e)
+fault-of (Ok y) e = cc
+fault-of (Err y) e = (y, refl)
 
-          pub a-number : n ≤ most_slots → n ≡ slots_in text
-          a-number l = rw (le-ltb most_slots n l) at all-passed
+-- a decimal that begins with another digit than 0 is not that of 0
+not-zero : (n : ℕ) (digits : List ℕ) → decimal n ≡ digits → 49 ≤ get_or digits 0 0 → 1 ≤ n
+unfolding decimal_in
+not-zero zero digits e l =
+    let h : 48 ≡ get_or digits 0 0 = ap (λ (ds : List ℕ). get_or ds 0 0) e in
+    absurd (omega arith)
+not-zero (suc n) digits e l = omega arith
+
+module _ (text digits : List ℕ) (cut : text ≡ digits ++ (newline ∷ [])) where
+  -- the digits are what the library prints of the number
+  spelt : (n : ℕ) → Said text n → digits ≡ printed n
+  spelt n s =
+      append_cancel_right digits (decimal n) (newline ∷ []) (sym cut ∙ s.line) ∙ decimal-printed n (omega (arith, s.few))
+
+  pub no-digit : (49 ≤ get_or digits 0 0 → 58 ≤ get_or digits 0 0) → None ≡ slots_in text
+  no-digit other = none-said text (λ n s.
+      let e = spelt n s in
+      let small : n < 2 ^ 64 = omega (arith, s.few) in
+      let d = decimal_is_IsNumeral n small in
+      let low : 48 < get_or digits 0 0 = rw e (first_decimal n s.some small) in
+      let in_range = digit_at (printed n) 0 d.0.1 d.0.0 in
+      let high : get_or digits 0 0 ≤ 57 = rw e (omega (arith, in_range)) in
+      omega (arith, other low))
+
+  pub no-text : (IsUtf8 digits → ⊥) → None ≡ slots_in text
+  no-text other = none-said text (λ n s.
+      let small : n < 2 ^ 64 = omega (arith, s.few) in
+      other (rw (spelt n s) (IsUtf8-from_ascii (printed n) (IsAscii-decimal n small))))
+
+  module _ {parsed : List ℕ} {E : Type 0} (r : Result ℕ E) (same : parsed ≡ digits) (parses : ParsesUnsigned 64 10 parsed r) where
+    read : ParsesUnsigned 64 10 digits r
+    read = subst (λ (ds : List ℕ). ParsesUnsigned 64 10 ds r) same parses
+
+    -- a line of n is read as n
+    line-read : (n : ℕ) → Said text n → r ≡ Ok n
+    line-read n s = let small : n < 2 ^ 64 = omega (arith, s.few) in parse-decimal 64 n digits r small small (spelt n s) read
+
+    pub no-number : (e : E) → r ≡ Err e → None ≡ slots_in text
+    no-number e is = none-said text (λ n s. let h = line-read n s in cc)
+
+    pub too-large : (m : ℕ) → r ≡ Ok m → most_slots < m → None ≡ slots_in text
+    too-large m is l = none-said text (λ n s. let h = line-read n s in let i : n ≡ m = cc in omega (arith, s.few, i))
+
+    pub a-number : (m : ℕ) → r ≡ Ok m → 49 ≤ get_or digits 0 0 → get_or digits 0 0 ≤ 57 → m ≤ most_slots → Some m ≡ slots_in text
+    a-number m is low high few =
+        let plain = without_leading_plus_none digits (λ e. omega (arith, e)) in
+        let got = rw (is, plain) at read in
+        let small : digits_value 10 digits < 2 ^ 64 = got.0.1 in
+        let own = numerals_by_value (AllDigits 10) tells_digits in
+        let printed-is : printed (digits_value 10 digits) ≡ digits = decimal-digits_value own digits got.0.0.1 got.0.0.0 (λ e. absurd (omega arith)) small in
+        let printed-same : printed m ≡ digits = subst (λ (j : ℕ). printed j ≡ digits) (sym got.1) printed-is in
+        let spelt-is : decimal m ≡ digits = decimal-printed m (omega arith) ∙ printed-same in
+        said-slots text m (record { some = not-zero m digits spelt-is low; few = few; line = cut ∙ rw spelt-is })

@@ -1,4 +1,4 @@
--- Numbers as text, and a line that is built from its end.
+-- Numbers as text, the words of a line, and its length.
 pub mod Decimal
 pub mod Words
 pub mod Line

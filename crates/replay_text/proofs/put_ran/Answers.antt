@@ -8,22 +8,22 @@ use Rattle.replay_text.proofs.put_ran.Goals as goal
 
 pub put_outcomes-at-requires : goal.put_outcomes-at-requires
 put_outcomes-at-requires c =
-    let few : c.in-Count.count ≤ most_packets = rw c.in-Count.is at c.requires.0 in
+    let few : c.in-Ok.count ≤ most_packets = rw c.in-Ok.is at c.requires.0 in
     (few, search rules, search rules)
 
-pub put_line-requires-in-Count : goal.put_line-requires-in-Count
-put_line-requires-in-Count c =
-    let few : c.in-Count.count ≤ most_packets = rw c.in-Count.is at c.requires.0 in
-    (c.totals_line.ensures.inside, search rules)
+pub put_line-requires-in-Ok : goal.put_line-requires-in-Ok
+put_line-requires-in-Ok c =
+    let few : c.in-Ok.count ≤ most_packets = rw c.in-Ok.is at c.requires.0 in
+    search rules
 
-pub returns-in-Refused : goal.returns-in-Refused
-returns-in-Refused c =
+pub returns-in-Err : goal.returns-in-Err
+returns-in-Err c =
     let put = c.put_line.ensures in
-    refused-put _ _ c.in-Refused.is (line-alone c.refusal_line.ensures put.0 put.1)
+    refused-put _ _ c.in-Err.is (line-alone c.refusal_line.ensures put.output put.end)
 
-pub returns-in-Count : goal.returns-in-Count
-returns-in-Count c =
-    let few : c.in-Count.count ≤ most_packets = rw c.in-Count.is at c.requires.0 in
-    let put = c.put_line-in-Count.ensures in
-    packets-put _ _ c.in-Count.is
-    (line_after c.put_outcomes-at.ensures.0 c.totals_line.ensures put.0 put.1 (search rules))
+pub returns-in-Ok : goal.returns-in-Ok
+returns-in-Ok c =
+    let few : c.in-Ok.count ≤ most_packets = rw c.in-Ok.is at c.requires.0 in
+    let put = c.put_line-in-Ok.ensures in
+    packets-put _ _ c.in-Ok.is
+    (line_after c.put_outcomes-at.ensures.lines c.totals_line.ensures put.output put.end put.short (search rules))

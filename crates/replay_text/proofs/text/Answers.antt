@@ -8,15 +8,15 @@ use Rattle.replay_text.proofs.text.Goals as goal
 
 pub put_run-requires : goal.put_run-requires
 put_run-requires c =
-    let t = files-taken _ _ _ (sym c.in-Count.ensures) in
+    let t = files-taken _ _ _ (sym c.in-Ok.ensures) in
     (t.some-there, t.few-there, t.trace-short, search rules)
 
-pub returns-in-Refused : goal.returns-in-Refused
-returns-in-Refused c =
+pub returns-in-Err : goal.returns-in-Err
+returns-in-Err c =
     let put = c.put_line.ensures in
-    text-refused _ _ _ c.file_answer.ensures c.in-Refused.is
-    (line-alone c.refusal_line.ensures put.0 put.1)
+    text-refused _ _ _ c.file_answer.ensures c.in-Err.is
+    (line-alone c.refusal_line.ensures put.output put.end)
 
-pub returns-in-Count : goal.returns-in-Count
-returns-in-Count c =
-    text-run _ _ _ c.file_answer.ensures c.in-Count.is c.put_run.ensures
+pub returns-in-Ok : goal.returns-in-Ok
+returns-in-Ok c =
+    text-run _ _ _ c.file_answer.ensures c.in-Ok.is c.put_run.ensures

@@ -1,26 +1,24 @@
--- `lines::put::put_outcomes` meets its contract: the lines of the first i records stand at the output's start. Assumes nothing.
-use borrow.Author.Rules.{rules}
-use native.Mathlib.Omega.{arith}
-use Rattle.lines.proofs.TextLaws.{spelt-none}
-use Rattle.lines.proofs.RecordLines.{lent-long, lines_more, lines-all}
+-- `lines::put::put_outcomes` meets its contract: the lines of the records so far stand at the output's start. Assumes nothing.
+use Rattle.std.proofs.Common.{rules, arith, length-append, ◌∙◌}
+use Rattle.lines.proofs.RecordLines.{listed-none, listed-more, listed-all}
 use Rattle.lines.proofs.put.put_outcomes.Goals as goal
 
-pub loop-i-init : goal.loop-i-init
-loop-i-init c = (search rules, search rules, spelt-none _ _ _)
+pub loop-outcome-init : goal.loop-outcome-init
+loop-outcome-init c =
+    let whole = c.into_iter-outcome-iterator.ensures.into_iter_gives in
+    (search rules, search rules, search rules, rw (whole, c.chunks_exact-outcome-items.ensures.rest) (listed-none _ _ _ c.requires.1))
 
-pub outcome_line-line-requires : goal.outcome_line-line-requires
-outcome_line-line-requires c = lent-long c.args.records.now c.loop-i.i (search rules)
-
-pub put_line-at-requires : goal.put_line-at-requires
-put_line-at-requires c = (c.outcome_line-line.ensures.inside, omega (arith, c.loop-i.invariant.2.small))
-
-pub loop-i-preserved : goal.loop-i-preserved
-loop-i-preserved c =
+pub loop-outcome-preserved : goal.loop-outcome-preserved
+loop-outcome-preserved c =
+    let step = c.in-Some.ensures.steps.1 in
+    let i = c.loop-outcome.invariant in
     let put = c.put_line-at.ensures in (
       search rules,
       search rules,
-      lines_more _ _ _ c.loop-i.invariant.2 (search rules) (search rules) c.outcome_line-line.ensures put.0 put.1,
+      search rules,
+      rw length-append
+          (listed-more _ _ _ c.requires.1 i.3 _ _ step.0 (step.1 ∙ i.2) c.requires.2 c.outcome_line.ensures put.output put.end put.short),
     )
 
-pub returns : goal.returns
-returns c = lines-all _ _ _ c.loop-i.invariant.2 (search rules) (search rules)
+pub returns-clause-lines : goal.returns-clause-lines
+returns-clause-lines c = let i = c.loop-outcome.invariant in let step = c.in-None.ensures.steps in listed-all _ _ _ c.requires.1 i.3 (omega (arith, step.1.0, i.2))

@@ -1,18 +1,13 @@
--- `lines::put::put_outcomes` meets its contract: the lines of the first i records stand at the output's start. Assumes nothing.
+-- `lines::put::put_outcomes` meets its contract: the lines of the records so far stand at the output's start. Assumes nothing.
 use mathlib.Core.Path.{◌≡◌}
-use Prim.Native.Nat.{◌-◌, ◌≤◌}
 use lib.ListN.{length}
-use Rattle.buffers.specs.Parts.{records_in}
+use Rattle.std.specs.Slice.Iter.{chunks_exact_rest, chunks_exact_size}
 use Rattle.records.specs.Layout.{outcome_size}
-use Rattle.records.specs.Outcomes.{decode_outcome}
-use Rattle.lines.specs.Printed.{outcome_line}
-use Rattle.lines.proofs.TextLaws.{Spelt}
+use Rattle.lines.proofs.RecordLines.{Listed}
 use Rattle.lines.proofs.put.put_outcomes.Given as goal
 
-abbrev pub invariant-loop-i : goal.invariant-loop-i
-invariant-loop-i l =
-    (l.i ≤ l.n) × (length l.out ≡ length l.initial.out)
-    × Spelt outcome_line (records_in outcome_size decode_outcome l.n l.records) l.initial.out l.i l.out l.at
-
-abbrev pub decreases-loop-i : goal.decreases-loop-i
-decreases-loop-i l = l.n - l.i
+abbrev pub invariant-loop-outcome : goal.invariant-loop-outcome
+invariant-loop-outcome l =
+    goal.iterator-loop-outcome.can_next l.outcome-iterator × goal.iterator-loop-outcome.is_finite l.outcome-iterator
+    × (chunks_exact_size l.outcome-iterator ≡ outcome_size)
+    × Listed l.n l.records l.initial.out (length l.yielded) (chunks_exact_rest l.outcome-iterator) l.out l.at
