@@ -23,8 +23,8 @@ fn stray_flaw(r: &[u8], value: usize, mask: usize) -> Flaw
         &r[value..value + layout::KEY_SIZE],
         &r[mask..mask + layout::KEY_SIZE],
     ) {
-        ternary::bits::Stray::Clean => Flaw::Clean,
-        ternary::bits::Stray::At(i) => Flaw::Stray(value + i),
+        None => Flaw::Clean,
+        Some(i) => Flaw::Stray(value + i),
     }
 }
 

@@ -39,7 +39,7 @@ fn may_isolate(policy: &[u8], key: &[u8], number: usize) -> Verdict
             match policy::search::best_rule(policy, key) {
                 policy::search::BestFound::NoRule => refused(refusal::NOT_BEST),
                 policy::search::BestFound::Rule { number: best, .. } => {
-                    if buffers::wide(best) == number {
+                    if usize::from(best) == number {
                         Verdict::Fine
                     } else {
                         refused(refusal::NOT_BEST)

@@ -7,7 +7,6 @@ ghost use Rattle.end_records.specs.Slots.{slots};
 ghost use Rattle.end_records.specs.MessageStructs.{as_report};
 ghost use Rattle.keeper.specs.Reports.{numbered, bytes_refusal, report_answer};
 
-use buffers::wide;
 use checks::flaw::Flaw;
 use checks::refusal;
 use checks::refusal::{Verdict, refused};
@@ -35,7 +34,7 @@ fn check_bytes(message: &[u8]) -> Verdict
 fn check_slot(keeper: &[u8], x: Report) -> Verdict
     ensures { result ≡ verdict_of (numbered (report_refusal (slots key_size keeper.now) (as_report x))) }
 {
-    let i = wide(x.slot);
+    let i = usize::from(x.slot);
     if keeper.len() / layout::SLOT_SIZE <= i {
         return refused(refusal::NO_SUCH_SLOT);
     }

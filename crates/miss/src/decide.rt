@@ -8,7 +8,6 @@ ghost use Rattle.miss.specs.Decision.{DecidedAs};
 ghost use Rattle.miss.specs.Decide.{FineMiss, RuleFor, entry_miss, miss_with, rule_miss, miss_in};
 
 use crate::decision::Decision;
-use buffers::wide;
 use end_records::write::Write;
 use records::{kinds, layout};
 use slots::find::SlotFound;
@@ -27,7 +26,7 @@ fn new_entry(
     ensures { DecidedAs policy.now keeper.now
         (entry_miss policy.now key.now keeper.now number) result }
 {
-    let pattern = isolate::rounds::isolate_best(policy, key, wide(number));
+    let pattern = isolate::rounds::isolate_best(policy, key, usize::from(number));
     let i = slots::choose::slot_for_entry(keeper);
     let value = pattern.value;
     let mask = pattern.mask;

@@ -9,7 +9,6 @@ ghost use Rattle.slots.specs.Find.{slot_found_of};
 ghost use Rattle.slots.specs.Choose.{first_empty};
 
 use crate::find::SlotFound;
-use buffers::larger;
 use end_records::fields;
 use records::layout;
 
@@ -21,7 +20,7 @@ pub fn largest_sequence(keeper: &[u8]) -> u32
     let mut most: u32 = 0;
     let mut i = 0;
     while i < n {
-        most = larger(most, fields::sequence_at(keeper, i));
+        most = most.max(fields::sequence_at(keeper, i));
         i += 1;
     }
     most

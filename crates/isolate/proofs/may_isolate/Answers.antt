@@ -28,13 +28,13 @@ returns-in-NoRule c =
     ∙ said-none _ _ _ (check-passed _ _ c.in-Count.ensures) c.if-key-ne-KEY_SIZE.false
     (omega (arith, check-count _ _ c.in-Count.ensures)) _ c.in-NoRule.ensures refl
 
-pub returns-then-wide-number : goal.returns-then-wide-number
-returns-then-wide-number c =
+pub returns-then-from-number : goal.returns-then-from-number
+returns-then-from-number c =
     said-isolated _ _ _ (check-passed _ _ c.in-Count.ensures) c.if-key-ne-KEY_SIZE.false
     (omega (arith, check-count _ _ c.in-Count.ensures)) _ c.in-Rule.ensures _ _ refl (omega arith)
 
-pub returns-else-wide-number : goal.returns-else-wide-number
-returns-else-wide-number c =
-    c.refused-else-wide-number.ensures
+pub returns-else-from-number : goal.returns-else-from-number
+returns-else-from-number c =
+    c.refused-else-from-number.ensures
     ∙ said-other _ _ _ (check-passed _ _ c.in-Count.ensures) c.if-key-ne-KEY_SIZE.false
-    (omega (arith, check-count _ _ c.in-Count.ensures)) _ c.in-Rule.ensures _ _ refl (λ e. c.if-wide-number.false (c.wide.ensures ∙ e))
+    (omega (arith, check-count _ _ c.in-Count.ensures)) _ c.in-Rule.ensures _ _ refl (λ e. c.if-from-number.false (c.from.ensures ∙ e))

@@ -9,7 +9,7 @@ loop-i-init c = (search rules, most-none _)
 
 pub loop-i-preserved : goal.loop-i-preserved
 loop-i-preserved c =
-    (search rules, most-more _ c.loop-i.invariant.1 c.loop-i-test.true c.sequence_at.ensures c.larger-most.ensures)
+    (search rules, most-more _ c.loop-i.invariant.1 c.loop-i-test.true c.sequence_at.ensures c.max-most.ensures)
 
 pub returns : goal.returns
 returns c = let l = c.loop-i in most-done _ l.invariant.1 (le_antisymm l.invariant.0 c.loop-i-test.false)
