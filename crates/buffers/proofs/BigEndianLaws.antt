@@ -1,11 +1,15 @@
--- Numbers and their bytes. Assumes nothing.
+-- Numbers and their bytes, which std's words for them name too. Assumes nothing.
 use Prim.Native.Nat.{ℕ, zero, suc, ◌+◌, ◌*◌, ◌/◌, ◌%◌, ◌^◌, ◌≤◌, ◌<◌}
-use mathlib.Core.Path.{◌≡◌, refl, ap, ◌∙◌}
+use mathlib.Core.Path.{◌≡◌, refl, sym, ap, ap₂, ◌∙◌}
 use mathlib.Core.List.{List, [], ◌∷◌, ◌++◌, append_assoc, append-nil}
 use native.Mathlib.Omega.{arith}
 use native.Mathlib.Nat.{pow-suc, add-zero, zero-add}
 use lib.ListN.{length, get_or, length-append}
+use lib.Seq.{take_all}
 use lib.Arith.{digits_div, digits_mod}
+use mir.Syntax.{w16, w32}
+use Rattle.std.specs.Int.{byte_at, bytes_high_first, from_be_bytes}
+use Rattle.std.proofs.Math.Nat.{div-div-eq-div-mul}
 use Rattle.model.specs.Bits.{Bytes}
 use Rattle.buffers.specs.BigEndian.{be, be_from, to_be}
 use Rattle.buffers.specs.Parts.{part}
@@ -41,6 +45,21 @@ pub to_be-length : (k n : ℕ) → length (to_be k n) ≡ k
 to_be-length zero n = refl
 to_be-length (suc k) n = simp length-append (omega (arith, to_be-length k (n / 256)))
 
+-- std's word for the k bytes of a number
+byte_above : (i n : ℕ) → byte_at (suc i) n ≡ byte_at i (n / 256)
+byte_above zero n = refl
+byte_above (suc i) n =
+    let e : 256 ^ suc (suc i) ≡ 256 * 256 ^ suc i = omega (arith, pow-suc 256 (suc i)) in
+    rw (e, div-div-eq-div-mul n 256 (256 ^ suc i)) refl
+
+high-snoc : (k n : ℕ) → bytes_high_first (suc k) n ≡ bytes_high_first k (n / 256) ++ (n % 256 ∷ [])
+high-snoc zero n = refl
+high-snoc (suc k) n = ap₂ (λ (b : ℕ) (bs : List ℕ). b ∷ bs) (byte_above k n) (high-snoc k n)
+
+pub high-first : (k n : ℕ) → bytes_high_first k n ≡ to_be k n
+high-first zero n = refl
+high-first (suc k) n = high-snoc k n ∙ ap (λ (bs : List ℕ). bs ++ (n % 256 ∷ [])) (high-first k (n / 256))
+
 -- a number of two bytes by its bytes, and one of four by its halves
 pub be-two : (at : ℕ) (s : List ℕ) → at + 2 ≤ length s → be (part 2 at s) ≡ get_or s at 0 * 256 + get_or s (at + 1) 0
 unfolding be
@@ -50,3 +69,13 @@ pub be-halves : (at : ℕ) (s : List ℕ) → at + 4 ≤ length s → be (part 4
 unfolding be
 be-halves at s h =
     rw (part-split 2 2 at s, ← reads-part 1 at s (omega arith), ← reads-part 1 (at + 2) s (omega arith)) (omega arith)
+
+-- std's word for the number of two bytes, and of four
+module _ (bs : List ℕ) where
+  pub spells-two : length bs ≡ 2 → from_be_bytes w16 bs ≡ be bs
+  spells-two e = sym (be-two 0 bs (omega arith)) ∙ ap be (take_all 2 bs (omega arith))
+
+  pub spells-four : length bs ≡ 4 → from_be_bytes w32 bs ≡ be bs
+  spells-four e =
+      let whole : be (part 4 0 bs) ≡ be bs = ap be (take_all 4 bs (omega arith)) in
+      omega (arith, whole, be-halves 0 bs (omega arith), be-two 0 bs (omega arith), be-two 2 bs (omega arith))

@@ -22,8 +22,8 @@ fn stray_flaw(r: &[u8], value: usize, mask: usize) -> Option<Flaw>
         &r[value..value + layout::KEY_SIZE],
         &r[mask..mask + layout::KEY_SIZE],
     ) {
-        ternary::bits::Stray::Clean => None,
-        ternary::bits::Stray::At(i) => Some(Flaw::Stray(value + i)),
+        None => None,
+        Some(i) => Some(Flaw::Stray(value + i)),
     }
 }
 

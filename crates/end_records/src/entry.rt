@@ -11,14 +11,9 @@ use records::layout;
 pub(crate) fn tail_bytes(first: u16, second: u16, third: u8, last: u8) -> [u8; layout::TAIL_SIZE]
     ensures { result ≡ to_be 2 first ++ (to_be 2 second ++ (third ∷ last ∷ [])) }
 {
-    [
-        (first / 256 % 256) as u8,
-        (first % 256) as u8,
-        (second / 256 % 256) as u8,
-        (second % 256) as u8,
-        third,
-        last,
-    ]
+    let first = first.to_be_bytes();
+    let second = second.to_be_bytes();
+    [first[0], first[1], second[0], second[1], third, last]
 }
 
 // The record with a part of it replaced.

@@ -7,14 +7,16 @@ use records::layout;
 pub(crate) fn head_bytes(kind: u8, slot: u16, sequence: u32) -> [u8; layout::WRITE_VALUE]
     ensures { result ≡ (kind ∷ 0 ∷ []) ++ (to_be 2 slot ++ to_be 4 sequence) }
 {
+    let slot = slot.to_be_bytes();
+    let sequence = sequence.to_be_bytes();
     [
         kind,
         0,
-        (slot / 256 % 256) as u8,
-        (slot % 256) as u8,
-        (sequence / 256 / 256 / 256 % 256) as u8,
-        (sequence / 256 / 256 % 256) as u8,
-        (sequence / 256 % 256) as u8,
-        (sequence % 256) as u8,
+        slot[0],
+        slot[1],
+        sequence[0],
+        sequence[1],
+        sequence[2],
+        sequence[3],
     ]
 }

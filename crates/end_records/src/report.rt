@@ -33,7 +33,7 @@ pub fn put_report(out: &mut [u8], x: Report)
     ensures { out.new ≡ splice 0 (encode_report (as_report x)) out.old }
 {
     let head = head_bytes(layout::IS_REPORT, x.slot, x.sequence);
-    let hits = buffers::bytes32(x.hits);
+    let hits = x.hits.to_be_bytes();
     buffers::put_bytes(out, 0, &head);
     buffers::put_bytes(out, layout::REPORT_HITS, &hits);
 }

@@ -56,15 +56,17 @@ pub fn slot_at(s: &[u8], i: usize) -> Slot
 fn head_bytes(sequence: u32, hits: u32) -> [u8; layout::SLOT_VALUE]
     ensures { result ≡ to_be 4 sequence ++ to_be 4 hits }
 {
+    let sequence = sequence.to_be_bytes();
+    let hits = hits.to_be_bytes();
     [
-        (sequence / 256 / 256 / 256 % 256) as u8,
-        (sequence / 256 / 256 % 256) as u8,
-        (sequence / 256 % 256) as u8,
-        (sequence % 256) as u8,
-        (hits / 256 / 256 / 256 % 256) as u8,
-        (hits / 256 / 256 % 256) as u8,
-        (hits / 256 % 256) as u8,
-        (hits % 256) as u8,
+        sequence[0],
+        sequence[1],
+        sequence[2],
+        sequence[3],
+        hits[0],
+        hits[1],
+        hits[2],
+        hits[3],
     ]
 }
 

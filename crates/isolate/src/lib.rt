@@ -24,7 +24,7 @@ fn check_isolate(policy: &[u8], key: &[u8], number: usize) -> Result<(), Refusal
         return Err(Refusal::NoSuchRule);
     }
     let best = policy::search::best_rule(policy, key).ok_or(Refusal::NotBest)?;
-    if buffers::wide(best.number) == number {
+    if usize::from(best.number) == number {
         Ok(())
     } else {
         Err(Refusal::NotBest)

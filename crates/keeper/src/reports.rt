@@ -7,7 +7,6 @@ ghost use Rattle.end_records.specs.Slots.{slots};
 ghost use Rattle.end_records.specs.MessageStructs.{as_report};
 ghost use Rattle.keeper.specs.Reports.{numbered, bytes_refusal, report_answer};
 
-use buffers::wide;
 use checks::refusal::Refusal;
 use end_records::report::Report;
 use records::layout;
@@ -32,7 +31,7 @@ fn check_bytes(message: &[u8]) -> Result<(), Refusal>
 fn check_slot(keeper: &[u8], x: Report) -> Result<(), Refusal>
     ensures { result ≡ verdict_of (numbered (report_refusal (slots key_size keeper.now) (as_report x))) }
 {
-    let i = wide(x.slot);
+    let i = usize::from(x.slot);
     if keeper.len() / layout::SLOT_SIZE <= i {
         return Err(Refusal::NoSuchSlot);
     }

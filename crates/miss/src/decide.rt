@@ -8,7 +8,6 @@ ghost use Rattle.miss.specs.Decision.{DecidedAs};
 ghost use Rattle.miss.specs.Decide.{FineMiss, RuleFor, entry_miss, miss_with, rule_miss, miss_in};
 
 use crate::decision::{Decision, entry_outcome, no_write, write_again};
-use buffers::wide;
 use end_records::write::Write;
 use policy::search::{BestRule, best_rule};
 use records::{kinds, layout};
@@ -23,7 +22,7 @@ fn new_entry(policy: &[u8], key: &[u8], keeper: &[u8], best: BestRule, sequence:
         (entry_miss policy.now key.now keeper.now best.number) result }
 {
     let BestRule { number, action } = best;
-    let isolated = isolate::rounds::isolate_best(policy, key, wide(number));
+    let isolated = isolate::rounds::isolate_best(policy, key, usize::from(number));
     let i = slot_for_entry(keeper);
     let value = isolated.value;
     let mask = isolated.mask;

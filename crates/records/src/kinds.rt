@@ -18,14 +18,9 @@ pub const AGAIN: u8 = 5;
 pub const NOTHING: u16 = 65535;
 
 // Whether a write is given: in outcomes 2, 3 and 5.
+#[tactic(auto, unfolding(crate::specs::Outcomes::gives_write))]
 pub fn gives_write(outcome: u8) -> bool
     ensures { result ≡ gives_write outcome }
 {
-    if outcome == TO_EMPTY {
-        return true;
-    }
-    if outcome == OVER_ENTRY {
-        return true;
-    }
-    outcome == AGAIN
+    matches!(outcome, TO_EMPTY | OVER_ENTRY | AGAIN)
 }

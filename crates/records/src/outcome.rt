@@ -6,7 +6,7 @@ ghost use Rattle.records.specs.Outcomes.{decode_outcome, encode_outcome, as_outc
 
 use crate::layout;
 
-#[derive(Clone, Copy)]
+#[derive(Clone, Copy, Debug, PartialEq, Eq)]
 pub struct Outcome {
     pub outcome: u8,
     pub action: u16,
@@ -16,6 +16,7 @@ pub struct Outcome {
 }
 
 // The outcome that bytes spell.
+#[tactic(auto, unfolding(crate::specs::Outcomes::decode_outcome))]
 pub fn outcome_of(c: &[u8]) -> Outcome
     requires { length c.now ≡ outcome_size }
     ensures { as_outcome result ≡ decode_outcome c.now }
@@ -30,22 +31,17 @@ pub fn outcome_of(c: &[u8]) -> Outcome
 }
 
 // The bytes of an outcome.
+#[tactic(auto, unfolding(crate::specs::Outcomes::encode_outcome))]
 fn outcome_bytes(x: Outcome) -> [u8; layout::OUTCOME_SIZE]
     ensures { result ≡ encode_outcome (as_outcome x) }
 {
+    let action = x.action.to_be_bytes();
+    let rule = x.rule.to_be_bytes();
+    let slot = x.slot.to_be_bytes();
+    let evicted = x.evicted.to_be_bytes();
     [
-        x.outcome,
-        0,
-        (x.action / 256 % 256) as u8,
-        (x.action % 256) as u8,
-        (x.rule / 256 % 256) as u8,
-        (x.rule % 256) as u8,
-        (x.slot / 256 % 256) as u8,
-        (x.slot % 256) as u8,
-        (x.evicted / 256 % 256) as u8,
-        (x.evicted % 256) as u8,
-        0,
-        0,
+        x.outcome, 0, action[0], action[1], rule[0], rule[1], slot[0], slot[1], evicted[0],
+        evicted[1], 0, 0,
     ]
 }
 

@@ -10,7 +10,5 @@ pub fn row_at(s: &[u8], at: usize) -> [u8; layout::KEY_SIZE]
     requires { at + key_size ≤ length s.now }
     ensures { result ≡ part key_size at s.now }
 {
-    let mut r = [0; layout::KEY_SIZE];
-    buffers::put_bytes(&mut r, 0, &s[at..at + layout::KEY_SIZE]);
-    r
+    buffers::bytes_at(s, at)
 }

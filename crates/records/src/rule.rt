@@ -9,7 +9,7 @@ ghost use Rattle.records.specs.Structs.{as_rule};
 use crate::layout;
 use crate::row::row_at;
 
-#[derive(Clone, Copy)]
+#[derive(Clone, Copy, Debug, PartialEq, Eq)]
 pub struct Rule {
     pub value: [u8; layout::KEY_SIZE],
     pub mask: [u8; layout::KEY_SIZE],
@@ -18,6 +18,7 @@ pub struct Rule {
 }
 
 // The rule that a record spells.
+#[tactic(auto, unfolding(crate::specs::Rules::decode_rule))]
 fn rule_of(t: &[u8]) -> Rule
     requires { length t.now ≡ rule_size key_size }
     ensures { as_rule result ≡ decode_rule key_size t.now }

@@ -7,7 +7,6 @@ ghost use Rattle.end_records.specs.Slots.{slots};
 ghost use Rattle.records.specs.SlotBuffers.{slot_count};
 ghost use Rattle.slots.specs.Choose.{first_empty};
 
-use buffers::larger;
 use end_records::fields;
 use records::layout;
 
@@ -17,7 +16,7 @@ pub fn largest_sequence(keeper: &[u8]) -> u32
 {
     let mut most: u32 = 0;
     for i in 0..keeper.len() / layout::SLOT_SIZE {
-        most = larger(most, fields::sequence_at(keeper, i));
+        most = most.max(fields::sequence_at(keeper, i));
     }
     most
 }

@@ -7,7 +7,6 @@ ghost use Rattle.end_records.specs.SlotStructs.{as_slot};
 ghost use Rattle.end_records.specs.MessageStructs.{as_report};
 ghost use Rattle.slots.specs.Settle.{ReportTaken};
 
-use buffers::wide;
 use end_records::report::Report;
 use end_records::slot::Slot;
 
@@ -16,7 +15,7 @@ fn confirmed_slot(old: Slot, hits: u32) -> Slot
     ensures { as_slot result ≡ confirmed (as_slot old) hits }
 {
     Slot {
-        hits: buffers::larger(old.hits, hits),
+        hits: old.hits.max(hits),
         settled: 1,
         ..old
     }
@@ -27,7 +26,7 @@ pub fn take_report(keeper: &mut [u8], x: Report)
     requires { x.slot < slot_count key_size keeper.old }
     ensures { ReportTaken keeper.old (as_report x) keeper.new }
 {
-    let i = wide(x.slot);
+    let i = usize::from(x.slot);
     let old = end_records::slot::slot_at(keeper, i);
     if x.sequence == old.sequence {
         end_records::slot::put_slot(keeper, i, confirmed_slot(old, x.hits));

@@ -2,45 +2,27 @@
 ghost use Rattle.std.specs.Prelude.{◌≡◌, ◌<◌, length};
 ghost use Rattle.model.specs.Pattern.{first_stray, wildcards as wildcards_at};
 ghost use Rattle.ternary.specs.Sizes.{positions};
-ghost use Rattle.ternary.specs.Strays.{stray_of};
 ghost use Rattle.ternary.specs.Counts.{exact_bits};
 ghost use Rattle.ternary.specs.Fixed.{Fixed};
 
 use crate::{KEY_SIZE, POSITIONS, Pattern};
 
-// Where the value has a bit under a wildcard.
-#[derive(Clone, Copy)]
-pub enum Stray {
-    Clean,
-    At(usize),
-}
-
 // The lowest byte of the value that has a bit under a wildcard.
-pub fn first_stray(value: &[u8], mask: &[u8]) -> Stray
+pub fn first_stray(value: &[u8], mask: &[u8]) -> Option<usize>
     requires { length mask.now ≡ length value.now }
-    ensures { result ≡ stray_of (first_stray (length value.now) value.now mask.now) }
+    ensures { result ≡ first_stray (length value.now) value.now mask.now }
 {
-    let mut i = 0;
-    while i < value.len() {
-        if value[i] & !mask[i] != 0 {
-            return Stray::At(i);
-        }
-        i += 1;
-    }
-    Stray::Clean
+    value
+        .iter()
+        .zip(mask)
+        .position(|(byte, exact)| byte & !exact != 0)
 }
 
 // The exact bits: the ones of the mask, summed over its bytes.
 pub fn exact_bits(mask: [u8; KEY_SIZE]) -> usize
     ensures { result ≡ exact_bits positions mask }
 {
-    let mut n: usize = 0;
-    let mut i = 0;
-    while i < KEY_SIZE {
-        n += u8::count_ones(mask[i]) as usize;
-        i += 1;
-    }
-    n
+    mask.iter().map(|byte| byte.count_ones() as usize).sum()
 }
 
 // The wildcard bits: the positions less the ones of the mask.

@@ -1,7 +1,9 @@
--- `buffers::be16` meets its contract: two bytes read by their index are the part. Assumes nothing.
-use native.Mathlib.Omega.{arith}
-use Rattle.buffers.proofs.BigEndianLaws.{be-two}
+-- `buffers::be16` meets its contract: std's word for the number of two bytes is `be`. Assumes nothing.
+use mathlib.Core.Path.{ap, ◌∙◌}
+use borrow.Author.Rules.{rules}
+use Rattle.buffers.specs.BigEndian.{be}
+use Rattle.buffers.proofs.BigEndianLaws.{spells-two}
 use Rattle.buffers.proofs.be16.Goals as goal
 
 pub returns : goal.returns
-returns c = omega (arith, be-two c.args.at c.args.s.now c.requires)
+returns c = c.from_be_bytes.ensures ∙ spells-two _ (search rules) ∙ ap be c.bytes_at.ensures

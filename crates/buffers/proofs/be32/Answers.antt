@@ -1,7 +1,9 @@
--- `buffers::be32` meets its contract: four bytes are two halves. Assumes nothing.
-use native.Mathlib.Omega.{arith}
-use Rattle.buffers.proofs.BigEndianLaws.{be-halves}
+-- `buffers::be32` meets its contract: std's word for the number of four bytes is `be`. Assumes nothing.
+use mathlib.Core.Path.{ap, ◌∙◌}
+use borrow.Author.Rules.{rules}
+use Rattle.buffers.specs.BigEndian.{be}
+use Rattle.buffers.proofs.BigEndianLaws.{spells-four}
 use Rattle.buffers.proofs.be32.Goals as goal
 
 pub returns : goal.returns
-returns c = omega (arith, be-halves c.args.at c.args.s.now c.requires)
+returns c = c.from_be_bytes.ensures ∙ spells-four _ (search rules) ∙ ap be c.bytes_at.ensures

@@ -1,5 +1,6 @@
--- `buffers::put_be32` meets its contract: the bytes of the number are copied. Assumes nothing.
+-- `buffers::put_be32` meets its contract: std's word for the bytes of a number is `to_be`. Assumes nothing.
+use Rattle.buffers.proofs.BigEndianLaws.{high-first}
 use Rattle.buffers.proofs.put_be32.Goals as goal
 
 pub returns : goal.returns
-returns c = cc
+returns c = rw (c.to_be_bytes.ensures, high-first 4 c.args.x) at c.put_bytes.ensures

@@ -41,14 +41,14 @@ returns-in_err-best c =
     (said-none _ _ _ (check-passed _ _ c.in_ok-count.ensures) c.if-key-ne-KEY_SIZE.false
     (omega (arith, check-count _ _ c.in_ok-count.ensures, c.if-number-count.false)) _ c.best_rule.ensures none.0)
 
-pub returns-then-wide-number : goal.returns-then-wide-number
-returns-then-wide-number c =
+pub returns-then-from-number : goal.returns-then-from-number
+returns-then-from-number c =
     said-isolated _ _ _ (check-passed _ _ c.in_ok-count.ensures) c.if-key-ne-KEY_SIZE.false
     (omega (arith, check-count _ _ c.in_ok-count.ensures, c.if-number-count.false)) _ c.best_rule.ensures _
-    (found _ _ _ c.in_ok-best.ensures.value) (omega (arith, c.wide.ensures, c.if-wide-number.true))
+    (found _ _ _ c.in_ok-best.ensures.value) (omega (arith, c.from.ensures, c.if-from-number.true))
 
-pub returns-else-wide-number : goal.returns-else-wide-number
-returns-else-wide-number c =
+pub returns-else-from-number : goal.returns-else-from-number
+returns-else-from-number c =
     said-other _ _ _ (check-passed _ _ c.in_ok-count.ensures) c.if-key-ne-KEY_SIZE.false
     (omega (arith, check-count _ _ c.in_ok-count.ensures, c.if-number-count.false)) _ c.best_rule.ensures _
-    (found _ _ _ c.in_ok-best.ensures.value) (λ e. c.if-wide-number.false (c.wide.ensures ∙ e))
+    (found _ _ _ c.in_ok-best.ensures.value) (λ e. c.if-from-number.false (c.from.ensures ∙ e))

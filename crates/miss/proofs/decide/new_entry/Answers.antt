@@ -5,7 +5,7 @@ use Rattle.miss.proofs.DecideLaws.{slot-inside, entry-decided}
 use Rattle.miss.proofs.decide.new_entry.Goals as goal
 
 pub isolate_best-isolated-requires : goal.isolate_best-isolated-requires
-isolate_best-isolated-requires c = rw c.wide.ensures c.requires.0.ready
+isolate_best-isolated-requires c = rw c.from.ensures c.requires.0.ready
 
 pub entry_outcome-requires : goal.entry_outcome-requires
 entry_outcome-requires c =
@@ -18,5 +18,5 @@ overflow_cast-result c =
 
 pub returns : goal.returns
 returns c =
-    entry-decided _ _ _ c.requires.0 c.requires.1 c.requires.2 c.wide.ensures c.isolate_best-isolated.ensures c.slot_for_entry-i.ensures
+    entry-decided _ _ _ c.requires.0 c.requires.1 c.requires.2 c.from.ensures c.isolate_best-isolated.ensures c.slot_for_entry-i.ensures
     c.entry_outcome.ensures refl

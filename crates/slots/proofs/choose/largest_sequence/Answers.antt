@@ -9,7 +9,7 @@ loop-i-init c = most-none _
 
 pub loop-i-preserved : goal.loop-i-preserved
 loop-i-preserved c =
-    most-more _ c.loop-i.invariant c.loop-i-test.true c.sequence_at.ensures c.larger-most.ensures
+    most-more _ c.loop-i.invariant c.loop-i-test.true c.sequence_at.ensures c.max-most.ensures
 
 pub returns : goal.returns
 returns c = let l = c.loop-i in most-done _ l.invariant (le_antisymm l.auto.i-end c.loop-i-test.false)

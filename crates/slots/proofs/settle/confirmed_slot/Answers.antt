@@ -2,4 +2,4 @@
 use Rattle.slots.proofs.settle.confirmed_slot.Goals as goal
 
 pub returns : goal.returns
-returns c = rw c.larger.ensures
+returns c = rw c.max.ensures

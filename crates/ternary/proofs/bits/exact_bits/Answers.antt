@@ -1,40 +1,24 @@
--- `ternary::bits::exact_bits` meets its contract: n is the sum of the ones of the bytes below i. Assumes nothing.
+-- `ternary::bits::exact_bits` meets its contract: each byte has at most eight ones, and their sum is the count. Assumes nothing.
 use borrow.Author.Rules.{rules}
-use mathlib.Core.Path.{◌≡◌, ap, ◌∙◌}
-use Prim.Native.Nat.{◌≤◌}
+use borrow.Author.Tests.{tests}
+use mathlib.Core.Path.{◌≡◌, ◌∙◌}
+use mathlib.Core.List.{map}
 use native.Mathlib.Omega.{arith}
-use lib.ListN.{length, get_or}
-use lib.Count.{ones, ones-le}
-use Rattle.model.specs.Below.{sum_below}
-use Rattle.model.specs.Bits.{Bytes}
-use Rattle.model.proofs.BelowLaws.{sum-next}
+use lib.Count.{ones}
+use Rattle.std.specs.List.{sum}
+use Rattle.std.proofs.lemmas.Iterator.{YieldsList-from_slice}
+use Rattle.std.proofs.lemmas.Iterator.Adapters.{fits_from_length, at_most_from_yields_List}
 use Rattle.ternary.proofs.ByteLaws.{bytes_of}
-use Rattle.ternary.proofs.CountLaws.{ones-row}
+use Rattle.ternary.proofs.CountLaws.{ones-sum}
+use Rattle.ternary.specs.Sizes.{key_size, positions}
 use Rattle.ternary.proofs.bits.exact_bits.Goals as goal
 
--- the byte at the loop's i has at most eight ones
-few : (c : goal.In-loop-i) → ones (get_or c.args.mask c.loop-i.i 0) ≤ 8
-few c =
-    let mask-bytes : Bytes c.args.mask = bytes_of _ (λ i. search rules) in
-    ones-le 8 _ (mask-bytes.byte c.loop-i.i)
-
-pub loop-i-init : goal.loop-i-init
-unfolding sum_below
-loop-i-init c = search rules
-
-pub overflow_cast-n : goal.overflow_cast-n
-overflow_cast-n c = omega (arith, few c)
-
-pub overflow_add-n : goal.overflow_add-n
-overflow_add-n c = omega (arith, few c)
-
-pub loop-i-preserved : goal.loop-i-preserved
-loop-i-preserved c = omega (arith, few c, sum-next (λ k. ones (get_or c.args.mask k 0)) c.loop-i.i)
+pub sum-requires-clause-fits : goal.sum-requires-clause-fits
+sum-requires-clause-fits c =
+    fits_from_length _ _ key_size _ (at_most_from_yields_List (YieldsList-from_slice c.args.mask cc) (search rules)) c.map.ensures.closure
+    (omega arith) (λ x r q k. search (rules, tests))
 
 pub returns : goal.returns
 returns c =
-    let last : c.loop-i.i ≡ length c.args.mask = omega arith in
-    let mask-bytes : Bytes c.args.mask = bytes_of _ (λ i. search rules) in
-    c.loop-i.invariant.2
-    ∙ ap (sum_below (λ k. ones (get_or c.args.mask k 0))) last
-    ∙ ones-row (length c.args.mask) _ c.args.mask mask-bytes (omega arith)
+    let e : c.sum.result ≡ sum (map ones c.args.mask) = search rules in
+    e ∙ ones-sum positions c.args.mask (bytes_of _ (λ i. search rules)) (search rules)

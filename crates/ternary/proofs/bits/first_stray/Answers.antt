@@ -1,19 +1,16 @@
--- `ternary::bits::first_stray` meets its contract: no byte below i has a bit under a wildcard. Assumes nothing.
+-- `ternary::bits::first_stray` meets its contract: the first pair of bytes with a bit under a wildcard. Assumes nothing.
 use borrow.Author.Rules.{rules}
-use Rattle.model.proofs.BelowLaws.{passed_none, passed-more}
+use borrow.Author.Tests.{tests}
+use mathlib.Core.Path.{◌≡◌}
+use Rattle.std.proofs.lemmas.Iterator.{YieldsList-from_slice, YieldsList-from_zip, IsFirst-from_position}
 use Rattle.ternary.proofs.ByteLaws.{bytes_of}
-use Rattle.ternary.proofs.StrayBytes.{stray-yes, stray-no}
-use Rattle.ternary.proofs.StrayLaws.{stray-found, stray-missed}
+use Rattle.ternary.proofs.StrayLaws.{strays_of, first-pair}
 use Rattle.ternary.proofs.bits.first_stray.Goals as goal
 
-pub loop-i-init : goal.loop-i-init
-loop-i-init c = search (rules, passed_none)
-
-pub returns-then-value-i-ne0 : goal.returns-then-value-i-ne0
-returns-then-value-i-ne0 c = search (rules, stray-found, stray-yes, bytes_of)
-
-pub loop-i-preserved : goal.loop-i-preserved
-loop-i-preserved c = search (rules, passed-more, stray-no, bytes_of)
-
 pub returns : goal.returns
-returns c = search (rules, stray-missed)
+returns c =
+    let a = c.args in
+    first-pair a.value.now a.mask.now (bytes_of _ c.type_inv.value) (bytes_of _ c.type_inv.mask) c.requires c.position.result
+    (IsFirst-from_position c.position.new.self _ c.position.result (λ p. strays_of p ≡ 0 → ⊥) (λ p. strays_of p ≡ 0) c.position.ensures.ran
+    (YieldsList-from_zip (YieldsList-from_slice a.value.now cc) (YieldsList-from_slice a.mask.now cc))
+    (λ x q k. search (rules, tests)) (λ x q k. search (rules, tests)))
