@@ -20,7 +20,7 @@ pub fn cover(policy: &[u8], number: usize, out: &mut [u8]) -> CountAnswer
                 return CountAnswer::Refused(refusal::at_no_place(refusal::NO_SUCH_RULE));
             }
             let list = dependents::dependents_of(policy, number);
-            lists::list_answer(list, out)
+            lists::list_answer(&list, out)
         }
     }
 }

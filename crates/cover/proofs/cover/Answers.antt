@@ -1,7 +1,7 @@
 -- `cover::cover` meets its contract: at each way out, the tests that led there say which answer it is. Assumes nothing.
-use mathlib.Core.Path.{refl}
+use mathlib.Core.Path.{refl, ◌∙◌}
 use native.Mathlib.Omega.{arith}
-use Rattle.cover.proofs.AnswerLaws.{taken_of, cover-few, refused-policy, refused-number, covered-list}
+use Rattle.cover.proofs.AnswerLaws.{taken_of, refused-policy, refused-number, covered-list}
 use Rattle.cover.proofs.cover.Goals as goal
 
 pub returns-then-n-number : goal.returns-then-n-number
@@ -13,16 +13,10 @@ dependents_of-list-requires c =
     let is = taken_of c.in-Count.ensures refl in
     (omega (arith, is.counted), is.few)
 
-pub list_answer-requires : goal.list_answer-requires
-list_answer-requires c =
-    let is = taken_of c.in-Count.ensures refl in
-    let list = c.dependents_of-list.ensures in
-    (omega (arith, cover-few _ _ list, is.few), list.few)
-
 pub returns-in-Refused : goal.returns-in-Refused
 returns-in-Refused c = refused-policy _ _ _ c.in-Refused.ensures refl
 
 pub returns-else-n-number : goal.returns-else-n-number
 returns-else-n-number c =
-    covered-list _ _ _ (taken_of c.in-Count.ensures refl) c.if-n-number.false c.dependents_of-list.ensures
-    c.list_answer.ensures
+    covered-list _ _ _ (taken_of c.in-Count.ensures refl) c.if-n-number.false
+    (c.deref.ensures.0 ∙ c.dependents_of-list.ensures) c.list_answer.ensures
