@@ -29,5 +29,5 @@ pub fn open_list(keeper: &[u8], out: &mut [u8]) -> CountAnswer
         return CountAnswer::Refused(refusal::at_no_place(refusal::BAD_SLOTS));
     }
     let list = open_slots::open_slots(keeper);
-    lists::list_answer(list, out)
+    lists::list_answer(&list, out)
 }
