@@ -1,6 +1,6 @@
 -- A scan of positions that keeps the first with the most, and a loop of rounds. Assumes nothing.
-use mathlib.Core.Path.{◌≡◌, refl, sym, ◌∙◌}
-use mathlib.Core.Bool.{Bool, true, not}
+use mathlib.Core.Path.{◌≡◌, refl, sym, ap, ◌∙◌}
+use mathlib.Core.Bool.{Bool, true, not, cond}
 use mathlib.Core.List.{List, [], ◌∷◌}
 use Rattle.std.specs.Prelude.{Some}
 use Prim.Native.Nat.{ℕ, zero, suc, ◌+◌, ◌≤◌, ◌<◌}
@@ -9,14 +9,16 @@ use native.Mathlib.Omega.{arith}
 use lib.ListN.{length, get_or}
 use Rattle.std.specs.List.{All}
 use Rattle.std.proofs.lemmas.List.{get_or_default}
-use borrow.Author.Count.{below_more}
-use Rattle.model.specs.Below.{keep, elem}
+use borrow.Author.Tests.{lt-ltb, le-ltb}
+use lib.Dec.{ltb}
+use native.Mathlib.Numerals.{add-one}
+use Rattle.model.specs.Below.{most_below, keep, elem}
 use Rattle.model.specs.Bits.{bit_at, put_bit}
 use Rattle.model.specs.Pattern.{wildcards}
 use Rattle.model.specs.Policy.{Rule, best, dependents}
 use Rattle.model.specs.Isolate.{separates, chosen, isolate}
-use Rattle.model.proofs.Cases.{and_left}
-use Rattle.model.proofs.BelowLaws.{most-is, most-unique, elem-keep, elem_at}
+use Rattle.model.proofs.Cases.{by_cases, order-cases, and_left}
+use Rattle.model.proofs.BelowLaws.{most-is, elem-keep, elem_at}
 use Rattle.model.proofs.PolicyLaws.{dependent-iff}
 use Rattle.model.proofs.RoundLaws.{fewer}
 use Rattle.model.proofs.IsolateLaws.{Rounds, rounds-start, rounds-next, resume, resume-start, resume-round, resume-stop}
@@ -25,45 +27,48 @@ use Rattle.isolate.specs.Structs.{PatternOf}
 
 -- ---- a scan of positions
 
-pub leads_none : (f : ℕ → ℕ) (n : ℕ) → 0 < n → Leads f n 0 0 0
-leads_none f n h = record {
-  seen = omega arith;
-  within = h;
-  highest = λ k l. absurd (not-suc-le-zero l);
-  lowest = λ k l. absurd (not-suc-le-zero l);
-  reached = omega arith;
-}
+pub leads-none : (f : ℕ → ℕ) → Leads f 0 0 0
+unfolding most_below
+leads-none f = record { first = refl; reached = λ l. absurd (not-suc-le-zero l); none = λ e. refl }
+
+one-more : (f : ℕ → ℕ) (p best : ℕ) → best ≡ most_below f p → most_below f (p + 1) ≡ cond (ltb (f best) (f p)) p best
+unfolding most_below
+one-more f p best e = rw (add-one, ← e)
+
+at-first : (f : ℕ → ℕ) (p best : ℕ) → best ≡ most_below f p → 0 ≡ p → best ≡ p
+unfolding most_below
+at-first f p best e o = rw (← o) at e ∙ o
 
 -- x is f at p
-module _ (f : ℕ → ℕ) (n p best most x : ℕ) (is : Leads f n p best most) (l : p < n) (at : x ≡ f p) where
-  pub leads_taken : most < x → Leads f n (p + 1) p x
-  leads_taken h = record {
-    seen = omega arith;
-    within = l;
-    highest = below_more (λ k. f k ≤ x) p (λ k m. omega (arith, is.highest k m)) (omega arith);
-    lowest = λ k m. omega (arith, is.highest k m);
-    reached = omega arith;
-  }
+module _ (f : ℕ → ℕ) (p best most x : ℕ) (is : Leads f p best most) (at : x ≡ f p) where
+  pub leads-taken : most < x → Leads f (p + 1) p x
+  leads-taken h = record { first = first; reached = λ l. at; none = λ e. absurd (omega arith) }
+    where
+      first : p ≡ most_below f (p + 1)
+      first =
+          rw (one-more f p best is.first)
+          (order-cases 0 p
+          (λ l. rw (lt-ltb (f best) (f p) (omega (arith, is.reached l))))
+          (λ o. let e = at-first f p best is.first o in by_cases (ltb (f best) (f p)) (λ t. rw t) (λ t. rw t (sym e)))
+          (λ l. absurd (omega arith)))
 
-  pub leads_kept : x ≤ most → Leads f n (p + 1) best most
-  leads_kept h = record {
-    seen = omega arith;
-    within = is.within;
-    highest = below_more (λ k. f k ≤ most) p is.highest (omega arith);
-    lowest = is.lowest;
-    reached = is.reached;
-  }
+  pub leads-kept : x ≤ most → Leads f (p + 1) best most
+  leads-kept h = record { first = first; reached = λ l. reached; none = λ e. absurd (omega arith) }
+    where
+      first : best ≡ most_below f (p + 1)
+      first =
+          rw (one-more f p best is.first)
+          (order-cases 0 p
+          (λ l. rw (le-ltb (f best) (f p) (omega (arith, is.reached l))))
+          (λ o. let e = at-first f p best is.first o in by_cases (ltb (f best) (f p)) (λ t. rw t e) (λ t. rw t))
+          (λ l. absurd (omega arith)))
 
--- all were seen, where f is how many of xs a position separates
-pub leads-chosen : (sep : ℕ → ℕ → Bool) (xs : List ℕ) (n p best most : ℕ)
-    → Leads (λ q. length (keep (sep q) xs)) n p best most → p ≡ n → best ≡ chosen sep n xs
-unfolding chosen
-leads-chosen sep xs n p best most is e =
-    most-unique (λ q. length (keep (sep q) xs)) n best (record {
-      within = is.within;
-      highest = λ k l. omega (arith, is.highest k (omega arith), is.reached);
-      lowest = λ k l. omega (arith, is.lowest k l, is.reached);
-    })
+      reached : most ≡ f best
+      reached =
+          order-cases 0 p
+          is.reached
+          (λ o. let e = ap f (at-first f p best is.first o) in omega (arith, is.none (sym o), e))
+          (λ l. absurd (omega arith))
 
 pub chosen-inside : (sep : ℕ → ℕ → Bool) (n : ℕ) (xs : List ℕ) → 0 < n → chosen sep n xs < n
 unfolding chosen

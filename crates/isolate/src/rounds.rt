@@ -68,8 +68,8 @@ fn leader_after(
 ) -> Leader
     requires { (number < rule_count key_size policy.now) × (b < key_size) ×
         All (λ d. d < rule_count key_size policy.now) standing.now.items ×
-        Leads (separated (rules key_size policy.now) key number standing.now.items) positions (b * 8) before.position before.count }
-    ensures { Leads (separated (rules key_size policy.now) key number standing.now.items) positions (b * 8 + 8)
+        Leads (separated (rules key_size policy.now) key number standing.now.items) (b * 8) before.position before.count }
+    ensures { Leads (separated (rules key_size policy.now) key number standing.now.items) (b * 8 + 8)
         result.position result.count }
 {
     let column = column_of(policy, key, number, b, standing);

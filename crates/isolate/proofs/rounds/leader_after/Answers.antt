@@ -3,7 +3,7 @@ use native.Mathlib.Omega.{arith}
 use mathlib.Core.Path.{◌≡◌, ◌∙◌}
 use Prim.Native.Nat.{◌+◌, ◌*◌}
 use native.Mathlib.Nat.{add-zero}
-use Rattle.isolate.proofs.RoundsLaws.{leads_taken, leads_kept}
+use Rattle.isolate.proofs.RoundsLaws.{leads-taken, leads-kept}
 use Rattle.isolate.proofs.rounds.leader_after.Goals as goal
 use Rattle.isolate.proofs.rounds.leader_after.Goals.{then-leader-count, else-leader-count}
 
@@ -18,9 +18,9 @@ loop-q-preserved c =
     let count = rw c.deref.ensures.0 at c.marked-count.ensures ∙ c.column_of-column.ensures.each q c.loop-q-test.true in
     elim c.if-leader-count.branch [
       | then-leader-count w ↦
-          rw (step, w.leader-is) (leads_taken _ _ _ _ _ _ c.loop-q.invariant (omega arith) count w.if-leader-count.true)
+          rw (step, w.leader-is) (leads-taken _ _ _ _ _ c.loop-q.invariant count w.if-leader-count.true)
       | else-leader-count w ↦
-          rw (step, w.leader-is) (leads_kept _ _ _ _ _ _ c.loop-q.invariant (omega arith) count w.if-leader-count.false)
+          rw (step, w.leader-is) (leads-kept _ _ _ _ _ c.loop-q.invariant count w.if-leader-count.false)
     ]
 
 pub returns : goal.returns
