@@ -16,11 +16,10 @@ loop-d-preserved c =
     let items = c.as_slice-d-items.ensures.value in
     let below : c.loop-d.d-index < length a.standing.now.items = rw items at c.loop-d-test.true in
     let bits = rw (c.from.ensures, items) at c.separating-bits.ensures in
-    let has = separates-here _ _ _ _ _ _ bits in
     let is = c.loop-d.invariant in
     elim c.if-bits-ne0.branch [
       | then-bits-ne0 w ↦
-          rw w.column-is (omega (arith, w.push.ensures.len, is.0), rw w.push.ensures.items (marks-more _ _ _ _ below _ is.1 _ has))
+          rw w.column-is (omega (arith, w.push.ensures.len, is.0), rw w.push.ensures.items (marks-more _ _ _ _ below _ is.1 _ (separates-here _ _ _ _ _ _ bits)))
       | else-bits-ne0 w ↦
-          rw w.column-is (omega arith, marks-same _ _ _ _ below _ is.1 _ has w.if-bits-ne0.false)
+          rw w.column-is (omega arith, marks-same _ _ _ _ below _ is.1 _ (separates-here _ _ _ _ _ _ bits) w.if-bits-ne0.false)
     ]
