@@ -4,23 +4,17 @@ use mathlib.Core.Path.{◌≡◌, sym, ◌∙◌}
 use mathlib.Core.List.{List}
 use Rattle.std.specs.Prelude.{None, Some, Result, Ok, Err}
 use native.Mathlib.Omega.{arith}
-use lib.ListN.{length, take}
+use lib.ListN.{length}
 use borrow.Author.Tests.{lt-ltb, le-ltb}
-use Rattle.model.specs.Policy.{dependents, before}
 use Rattle.checks.specs.declared.refusal.Refusal.TheVariants.{NoSuchRule}
 use Rattle.ternary.specs.Sizes.{key_size}
 use Rattle.records.specs.Layout.{most_rules}
-use Rattle.records.specs.Rules.{rule_count, rules}
-use Rattle.records.proofs.RuleLaws.{rule-count}
+use Rattle.records.specs.Rules.{rule_count}
 use Rattle.checks.specs.declared.refusal.Refusal.{Refusal}
 use Rattle.policy.specs.Refusals.{policy_refusal}
 use Rattle.policy.specs.Answers.{check_answer}
 use Rattle.policy.proofs.CheckLaws.{check-refused, check-passed, check-count, passed-few}
-use Rattle.lists.specs.Numbers.{Lists}
 use Rattle.lists.specs.Answers.{list_refusal, Answered}
-use Rattle.lists.proofs.GatherLaws.{lists-few}
-use Rattle.lists.proofs.AnswerLaws.{answered-as}
-use Rattle.cover.specs.Depends.{depends_on}
 use Rattle.cover.specs.Answers.{cover_list, cover_refusal, Covered}
 
 -- ---- the policy's check
@@ -35,14 +29,6 @@ pub taken_of : {policy : List ℕ} {n : ℕ} {r : Result ℕ Refusal} → r ≡ 
 taken_of {policy} {n} e t =
     let passed = check-passed policy n (sym t ∙ e) in
     record { fine = passed; counted = check-count policy n (sym t ∙ e); few = passed-few policy passed }
-
--- ---- the list is no longer than the policy
-
-pub cover-few : (policy : List ℕ) (number : ℕ) {items : List ℕ} {count : ℕ}
-    → Lists items count (cover_list policy number) → count ≤ rule_count key_size policy
-unfolding dependents
-cover-few policy number is =
-    omega (arith, lists-few (depends_on (rules key_size policy) number) (before (rules key_size policy)) is, rule-count key_size policy)
 
 -- ---- each way out
 
@@ -59,11 +45,11 @@ module _ (policy : List ℕ) (number : ℕ) (out : List ℕ) where
     unfolding cover_refusal
     refused-number l = refused_as (rw (is.fine, le-ltb number (rule_count key_size policy) (omega (arith, is.counted))))
 
-    pub covered-list : {items : List ℕ} {count : ℕ} {r : Result ℕ Refusal} {out' : List ℕ} → number < n → Lists items count (cover_list policy number)
-        → Answered (take count items) out r out' → Covered policy number out r out'
+    pub covered-list : {xs : List ℕ} {r : Result ℕ Refusal} {out' : List ℕ} → number < n → xs ≡ cover_list policy number
+        → Answered xs out r out' → Covered policy number out r out'
     unfolding cover_refusal
     covered-list low list a =
         let t : cover_refusal policy number (length out) ≡ list_refusal (cover_list policy number) (length out) =
         rw (is.fine, lt-ltb number (rule_count key_size policy) (omega (arith, is.counted)))
         in
-        let told = answered-as (cover_list policy number) out list a in record { answer = rw t told.answer; out-after = rw t told.out-after }
+        let told = rw list at a in record { answer = rw t told.answer; out-after = rw t told.out-after }

@@ -1,5 +1,4 @@
--- Laws of a number put into a list, and of its place in a list in order.
-pub mod MoveLaws
+-- Laws of the place of a number in a list in order.
 pub mod RankLaws
 -- Laws of rules where they lie, of lists of rule numbers in order, and of the refusals.
 pub mod InPlace

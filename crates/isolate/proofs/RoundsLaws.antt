@@ -1,75 +1,82 @@
--- A loop over positions that keeps the first with the most, and a loop of rounds. Assumes nothing.
-use mathlib.Core.Path.{◌≡◌, sym, ap, ◌∙◌}
-use mathlib.Core.Bool.{Bool, true, not}
+-- A scan of positions that keeps the first with the most, and a loop of rounds. Assumes nothing.
+use mathlib.Core.Path.{◌≡◌, refl, sym, ap, ◌∙◌}
+use mathlib.Core.Bool.{Bool, true, not, cond}
 use mathlib.Core.List.{List, [], ◌∷◌}
 use Rattle.std.specs.Prelude.{Some}
-use mathlib.Core.Logic.{◌≢◌}
 use Prim.Native.Nat.{ℕ, zero, suc, ◌+◌, ◌≤◌, ◌<◌}
 use native.Mathlib.Nat.{not-suc-le-zero}
 use native.Mathlib.Omega.{arith}
-use lib.ListN.{length, take, get_or}
-use lib.Seq.{length-take-le, get_or-take}
-use borrow.Author.Count.{below_more}
-use Rattle.model.specs.Below.{keep, elem}
+use lib.ListN.{length, get_or}
+use Rattle.std.specs.List.{All}
+use Rattle.std.proofs.lemmas.List.{get_or_default}
+use borrow.Author.Tests.{lt-ltb, le-ltb}
+use lib.Dec.{ltb}
+use native.Mathlib.Numerals.{add-one}
+use Rattle.model.specs.Below.{most_below, keep, elem}
 use Rattle.model.specs.Bits.{bit_at, put_bit}
 use Rattle.model.specs.Pattern.{wildcards}
 use Rattle.model.specs.Policy.{Rule, best, dependents}
 use Rattle.model.specs.Isolate.{separates, chosen, isolate}
-use Rattle.model.proofs.Cases.{and_left}
-use Rattle.model.proofs.BelowLaws.{most-unique, elem-keep, elem_at}
+use Rattle.model.proofs.Cases.{by_cases, order-cases, and_left}
+use Rattle.model.proofs.BelowLaws.{most-is, elem-keep, elem_at}
 use Rattle.model.proofs.PolicyLaws.{dependent-iff}
 use Rattle.model.proofs.RoundLaws.{fewer}
 use Rattle.model.proofs.IsolateLaws.{Rounds, rounds-start, rounds-next, resume, resume-start, resume-round, resume-stop}
-use Rattle.lists.specs.Numbers.{Lists, Under}
+use Rattle.isolate.specs.Leads.{Leads}
 use Rattle.isolate.specs.Structs.{PatternOf}
 
--- ---- the scan: positions below p were seen, none of them is above `most`, and `best` is the first that reaches it
-pub record Scan (f : ℕ → ℕ) (n p best most : ℕ) : Type 0 where
-  pub seen : p ≤ n
-  pub within : best < n
-  pub highest : (k : ℕ) → k < p → f k ≤ most
-  pub lowest : (k : ℕ) → k < best → f k < most
-  pub reached : most ≤ f best
+-- ---- a scan of positions
 
-pub scan-none : (f : ℕ → ℕ) (n : ℕ) → 0 < n → Scan f n 0 0 0
-scan-none f n h = record {
-  seen = omega arith;
-  within = h;
-  highest = λ k l. absurd (not-suc-le-zero l);
-  lowest = λ k l. absurd (not-suc-le-zero l);
-  reached = omega arith;
-}
+pub leads-none : (f : ℕ → ℕ) → Leads f 0 0 0
+unfolding most_below
+leads-none f = record { first = refl; reached = λ l. absurd (not-suc-le-zero l); none = λ e. refl }
+
+one-more : (f : ℕ → ℕ) (p best : ℕ) → best ≡ most_below f p → most_below f (p + 1) ≡ cond (ltb (f best) (f p)) p best
+unfolding most_below
+one-more f p best e = rw (add-one, ← e)
+
+at-first : (f : ℕ → ℕ) (p best : ℕ) → best ≡ most_below f p → 0 ≡ p → best ≡ p
+unfolding most_below
+at-first f p best e o = rw (← o) at e ∙ o
 
 -- x is f at p
-module _ (f : ℕ → ℕ) (n p best most x : ℕ) (is : Scan f n p best most) (l : p < n) (at : x ≡ f p) where
-  pub scan-taken : most < x → Scan f n (p + 1) p x
-  scan-taken h = record {
-    seen = omega arith;
-    within = l;
-    highest = below_more (λ k. f k ≤ x) p (λ k m. omega (arith, is.highest k m)) (omega arith);
-    lowest = λ k m. omega (arith, is.highest k m);
-    reached = omega arith;
-  }
+module _ (f : ℕ → ℕ) (p best most x : ℕ) (is : Leads f p best most) (at : x ≡ f p) where
+  pub leads-taken : most < x → Leads f (p + 1) p x
+  leads-taken h = record { first = first; reached = λ l. at; none = λ e. absurd (omega arith) }
+    where
+      first : p ≡ most_below f (p + 1)
+      first =
+          rw (one-more f p best is.first)
+          (order-cases 0 p
+          (λ l. rw (lt-ltb (f best) (f p) (omega (arith, is.reached l))))
+          (λ o. let e = at-first f p best is.first o in by_cases (ltb (f best) (f p)) (λ t. rw t) (λ t. rw t (sym e)))
+          (λ l. absurd (omega arith)))
 
-  pub scan-kept : x ≤ most → Scan f n (p + 1) best most
-  scan-kept h = record {
-    seen = omega arith;
-    within = is.within;
-    highest = below_more (λ k. f k ≤ most) p is.highest (omega arith);
-    lowest = is.lowest;
-    reached = is.reached;
-  }
+  pub leads-kept : x ≤ most → Leads f (p + 1) best most
+  leads-kept h = record { first = first; reached = λ l. reached; none = λ e. absurd (omega arith) }
+    where
+      first : best ≡ most_below f (p + 1)
+      first =
+          rw (one-more f p best is.first)
+          (order-cases 0 p
+          (λ l. rw (le-ltb (f best) (f p) (omega (arith, is.reached l))))
+          (λ o. let e = at-first f p best is.first o in by_cases (ltb (f best) (f p)) (λ t. rw t e) (λ t. rw t))
+          (λ l. absurd (omega arith)))
 
--- all were seen, where f is how many of xs a position separates
-pub scan-chosen : (sep : ℕ → ℕ → Bool) (xs : List ℕ) (n p best most : ℕ)
-    → Scan (λ q. length (keep (sep q) xs)) n p best most → p ≡ n → best ≡ chosen sep n xs
+      reached : most ≡ f best
+      reached =
+          order-cases 0 p
+          is.reached
+          (λ o. let e = ap f (at-first f p best is.first o) in omega (arith, is.none (sym o), e))
+          (λ l. absurd (omega arith))
+
+pub chosen-inside : (sep : ℕ → ℕ → Bool) (n : ℕ) (xs : List ℕ) → 0 < n → chosen sep n xs < n
 unfolding chosen
-scan-chosen sep xs n p best most is e =
-    most-unique (λ q. length (keep (sep q) xs)) n best (record {
-      within = is.within;
-      highest = λ k l. omega (arith, is.highest k (omega arith), is.reached);
-      lowest = λ k l. omega (arith, is.lowest k l, is.reached);
-    })
+chosen-inside sep n xs h = (most-is (λ q. length (keep (sep q) xs)) n h).within
+
+none-left : (xs : List ℕ) → length xs ≡ 0 → xs ≡ []
+none-left [] e = refl
+none-left (x ∷ xs) e = absurd (omega arith)
 
 -- ---- the rounds: v and m are the pattern so far, with c bits fixed, and those of xs stand; as many rounds are left as make up `top`
 pub record Going (n : ℕ) (pol : List Rule) (key : List ℕ) (i top : ℕ) (v m : List ℕ) (c : ℕ) (xs : List ℕ) : Type 0 where
@@ -88,13 +95,13 @@ module _ (n : ℕ) (pol : List Rule) (key : List ℕ) (i : ℕ) where
   left p xs = keep (λ e. not (sep p e)) xs
 
   -- at first
-  pub going_start : (items v m : List ℕ) (top : ℕ) → Lists items top (dependents n pol i) → best n pol key ≡ Some i
-      → PatternOf pol i v m → Going n pol key i top v m 0 (take top items)
-  going_start items v m top is b rows =
-      rw (is.same, rows.value-is, rows.mask_is)
+  pub going_start : (v m : List ℕ) {xs : List ℕ} → xs ≡ dependents n pol i → best n pol key ≡ Some i
+      → PatternOf pol i v m → Going n pol key i (length xs) v m 0 xs
+  going_start v m is b rows =
+      rw (is, rows.value-is, rows.mask_is)
       (record {
         k = length (dependents n pol i);
-        total = omega (arith, ap length is.same, length-take-le top items is.few);
+        total = omega arith;
         rounds = rounds-start n pol key i b;
         same = sym (resume-start n pol key i);
         below = λ d h. ((dependent-iff pol n i d).0 h).0;
@@ -120,37 +127,23 @@ module _ (n : ℕ) (pol : List Rule) (key : List ℕ) (i : ℕ) where
     shrinks k [] r h = absurd (not-suc-le-zero h)
     shrinks k (d ∷ ds) r h = fewer sep n d ds r.separable
 
-    module _ (items : List ℕ) (count : ℕ) (few : count ≤ length items) (is : Going n pol key i top v m c (take count items)) where
-      long : length (take count items) ≡ count
-      long = length-take-le count items few
-
-      pub going-under : (w : ℕ) → length pol ≡ w → Under w items count
-      going-under w e = record {
-        few = few;
-        at = λ j l.
-            let h = rw (get_or-take count items j 0 l) at (elem_at (take count items) j (omega (arith, long))) in
-            omega (arith, is.below (get_or items j 0) h);
-      }
+    module _ (xs : List ℕ) (is : Going n pol key i top v m c xs) where
+      pub going-under : {w : ℕ} → length pol ≡ w → All (λ d. d < w) xs
+      going-under e = λ k d l. rw (get_or_default xs k d 0 l) (omega (arith, is.below (get_or xs k 0) (elem_at xs k l)))
 
       -- while one stands there are rounds left
-      pub going-room : count ≢ 0 → c < top
-      going-room h = omega (arith, is.rounds.enough, is.total, long)
+      pub going-room : 0 < length xs → c < top
+      going-room h = omega (arith, is.rounds.enough, is.total)
 
       -- none stands
-      pub going-stop : count ≡ 0 → record { value = v; mask = m; fixed_bits = c; wildcards_left = wildcards n m } ≡ isolate n pol key i
-      going-stop z = sym (resume-stop sep n key v m c is.k) ∙ rw z at is.same
+      pub going-stop : length xs ≡ 0 → record { value = v; mask = m; fixed_bits = c; wildcards_left = wildcards n m } ≡ isolate n pol key i
+      going-stop z = sym (resume-stop sep n key v m c is.k) ∙ rw (none-left xs z) at is.same
 
-      -- one stands: p is the position that the scan found, and of the list out are those that it leaves
-      module _ (p : ℕ) (at : p ≡ chosen sep n (take count items)) (out : List ℕ) (next : ℕ)
-          (are : Lists out next (left p (take count items))) (h : count ≢ 0) where
-        pub going_less : next < count
-        going_less =
-            let b : length (left p (take count items)) < length (take count items) =
-            rw at (shrinks is.k _ is.rounds (omega (arith, long))) in
-            omega (arith, length-take-le next out are.few, ap length are.same, long)
+      -- one stands: p is the position that the scan found, and `out` are those that it leaves
+      module _ {p : ℕ} {out : List ℕ} (at : p ≡ chosen sep n xs) (are : out ≡ left p xs) (h : 0 < length xs) where
+        pub going_less : length out < length xs
+        going_less = rw (are, at) (shrinks is.k xs is.rounds h)
 
-        pub going_next : (v' m' : List ℕ) → v' ≡ put_bit v p (bit_at key p) → m' ≡ put_bit m p 1
-            → Going n pol key i top v' m' (c + 1) (take next out)
-        going_next v' m' ev em =
-            rw (ev, em, are.same, at)
-            (round is.k (take count items) is.total is.rounds is.same is.below (omega (arith, long)))
+        pub going_next : {v' m' : List ℕ} → v' ≡ put_bit v p (bit_at key p) → m' ≡ put_bit m p 1
+            → Going n pol key i top v' m' (c + 1) out
+        going_next ev em = rw (ev, em, are, at) (round is.k xs is.total is.rounds is.same is.below h)

@@ -1,9 +1,8 @@
 -- What a byte of the key separates, as bits of bytes. Assumes nothing.
-use Rattle.std.specs.Prelude.{◌≡◌, Bool, not, ◌&&◌, List, ℕ, ◌+◌, ◌*◌, ◌≤◌, ◌<◌, eqb, length, take, get_or}
+use Rattle.std.specs.Prelude.{◌≡◌, Bool, not, ◌&&◌, List, ℕ, ◌+◌, ◌*◌, ◌<◌, eqb, length, get_or}
 use Rattle.model.specs.Below.{keep}
 use Rattle.model.specs.Bits.{bit_of}
 use Rattle.model.specs.Policy.{Rule, rule_at}
-use Rattle.records.specs.Layout.{most_rules}
 
 -- the byte x has the bit at place q from its top
 unfoldable pub bit_set : ℕ → ℕ → Bool
@@ -16,8 +15,6 @@ pub record Separating (pol : List Rule) (key i b d x : ℕ) : Type 0 where
       ≡ (not (bit_set q (get_or (rule_at pol i).mask b 0))
       && (bit_set q (get_or (rule_at pol d).mask b 0) && not (eqb (bit_of (get_or (rule_at pol d).value b 0) q) (bit_of key q))))
 
--- of the first `count` bytes, as many have bit q as `sep` separates of xs at position q of byte b
-pub record Marks (sep : ℕ → ℕ → Bool) (b : ℕ) (xs bytes : List ℕ) (count : ℕ) : Type 0 where
-  pub long : length bytes ≡ most_rules
-  pub few : count ≤ length bytes
-  pub each : (q : ℕ) → q < 8 → length (keep (bit_set q) (take count bytes)) ≡ length (keep (sep (b * 8 + q)) xs)
+-- as many of the bytes have bit q as `sep` separates of xs at position q of byte b
+pub record Marks (sep : ℕ → ℕ → Bool) (b : ℕ) (xs bytes : List ℕ) : Type 0 where
+  pub each : (q : ℕ) → q < 8 → length (keep (bit_set q) bytes) ≡ length (keep (sep (b * 8 + q)) xs)

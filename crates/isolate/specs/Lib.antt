@@ -1,6 +1,7 @@
 -- What the contracts on separating cite, above the model.
 pub mod Columns
 -- What the contracts on the rounds cite, above the model.
+pub mod Leads
 pub mod Ready
 pub mod Structs
 -- What the call that isolates answers, and what that promises.

@@ -1,10 +1,10 @@
 // The rounds of isolating: each fixes the position that separates the most of the dependents that stand.
-ghost use Rattle.std.specs.Prelude.{◌≡◌, ◌<◌};
-ghost use Rattle.model.specs.Isolate.{isolate};
-ghost use Rattle.model.specs.Policy.{best, dependents};
+ghost use Rattle.std.specs.Prelude.{◌≡◌, ◌+◌, ◌*◌, ◌<◌, All};
+ghost use Rattle.model.specs.Isolate.{separates, chosen, isolate};
+ghost use Rattle.model.specs.Policy.{best, dependents as dependents_at};
 ghost use Rattle.ternary.specs.Sizes.{key_size, positions};
 ghost use Rattle.records.specs.Rules.{rule_count, rules};
-ghost use Rattle.lists.specs.Numbers.{Lists};
+ghost use Rattle.isolate.specs.Leads.{separated, Leads};
 ghost use Rattle.isolate.specs.Ready.{Ready};
 ghost use Rattle.isolate.specs.Structs.{as_isolated, with_counts, PatternOf};
 
@@ -50,42 +50,70 @@ fn with_counts(pattern: Pattern, fixed: usize) -> Isolated
     }
 }
 
-// The rule isolated for the key, whose best it is. `deps` are the rule's dependents, which all stand at first.
-fn isolate_rule(policy: &[u8], key: [u8; KEY_SIZE], number: usize, deps: Numbers) -> Isolated
+// Of the positions that were seen, the one that separates the most of the standing, the lowest on a tie, and how many it separates.
+#[derive(Clone, Copy)]
+struct Leader {
+    position: usize,
+    count: usize,
+}
+
+// The leader once the eight positions of byte b are seen too.
+fn leader_after(
+    policy: &[u8],
+    key: [u8; KEY_SIZE],
+    number: usize,
+    standing: &Numbers,
+    b: usize,
+    before: Leader,
+) -> Leader
+    requires { (number < rule_count key_size policy.now) × (b < key_size) ×
+        All (λ d. d < rule_count key_size policy.now) standing.now.items ×
+        Leads (separated (rules key_size policy.now) key number standing.now.items) (b * 8) before.position before.count }
+    ensures { Leads (separated (rules key_size policy.now) key number standing.now.items) (b * 8 + 8)
+        result.position result.count }
+{
+    let column = column_of(policy, key, number, b, standing);
+    let mut leader = before;
+    for q in 0..8 {
+        let count = marked(&column, q);
+        if leader.count < count {
+            leader = Leader {
+                position: b * 8 + q,
+                count,
+            };
+        }
+    }
+    leader
+}
+
+// The position that separates the most of the standing, the lowest on a tie.
+fn chosen(policy: &[u8], key: [u8; KEY_SIZE], number: usize, standing: &Numbers) -> usize
+    requires { (number < rule_count key_size policy.now) × All (λ d. d < rule_count key_size policy.now) standing.now.items }
+    ensures { result ≡ chosen (separates (rules key_size policy.now) key number) positions standing.now.items }
+{
+    let mut leader = Leader {
+        position: 0,
+        count: 0,
+    };
+    for b in 0..KEY_SIZE {
+        leader = leader_after(policy, key, number, standing, b, leader);
+    }
+    leader.position
+}
+
+// The rule isolated for the key, whose best it is. Its dependents all stand at first.
+fn isolate_rule(policy: &[u8], key: [u8; KEY_SIZE], number: usize, dependents: Numbers) -> Isolated
     requires { (number < rule_count key_size policy.now) × (best positions (rules key_size policy.now) key ≡ Some number) ×
-        Lists deps.items deps.count (dependents positions (rules key_size policy.now) number) }
+        (dependents.items ≡ dependents_at positions (rules key_size policy.now) number) }
     ensures { as_isolated result ≡ isolate positions (rules key_size policy.now) key number }
 {
     let mut pattern = rule_pattern(policy, number);
-    let mut standing = deps;
+    let mut standing = dependents;
     let mut fixed: usize = 0;
-    'rounds: loop {
-        if standing.count == 0 {
-            break 'rounds;
-        }
-        let mut best: usize = 0;
-        let mut most: usize = 0;
-        let mut p: usize = 0;
-        let mut bytes = [0; layout::MOST_RULES];
-        let mut count: usize = 0;
-        let chosen = loop {
-            if p == ternary::POSITIONS {
-                break best;
-            }
-            if p % 8 == 0 {
-                let column = column_of(policy, key, number, p / 8, standing);
-                bytes = column.bytes;
-                count = column.count;
-            }
-            let n = marked(&bytes, count, p % 8);
-            if most < n {
-                most = n;
-                best = p;
-            }
-            p += 1;
-        };
-        pattern = ternary::bits::fix_bit(pattern, key, chosen);
-        standing = left(policy, key, number, chosen, standing);
+    'rounds: while !standing.is_empty() {
+        let p = chosen(policy, key, number, &standing);
+        pattern = ternary::bits::fix_bit(pattern, key, p);
+        standing = left(policy, key, number, p, &standing);
         fixed += 1;
     }
     with_counts(pattern, fixed)
@@ -97,6 +125,5 @@ pub fn isolate_best(policy: &[u8], key: &[u8], number: usize) -> Isolated
     ensures { as_isolated result ≡ isolate positions (rules key_size policy.now) key.now number }
 {
     let row = row_at(key, 0);
-    let deps = dependents_of(policy, number);
-    isolate_rule(policy, row, number, deps)
+    isolate_rule(policy, row, number, dependents_of(policy, number))
 }

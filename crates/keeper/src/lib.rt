@@ -27,5 +27,5 @@ pub fn open_list(keeper: &[u8], out: &mut [u8]) -> Result<usize, Refusal>
         return Err(Refusal::BadSlots);
     }
     let list = open_slots::open_slots(keeper);
-    lists::list_answer(list, out)
+    lists::list_answer(&list, out)
 }

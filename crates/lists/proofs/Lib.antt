@@ -1,4 +1,3 @@
--- Laws of lists of numbers: gathered by a loop, their bytes, and the answer of a call that writes them.
+-- Laws of lists of numbers: gathered by a loop, and their bytes.
 pub mod GatherLaws
 pub mod ByteLaws
-pub mod AnswerLaws

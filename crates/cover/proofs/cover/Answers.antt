@@ -1,8 +1,8 @@
 -- `cover::cover` meets its contract: at each way out, the tests that led there say which answer it is. Assumes nothing.
-use mathlib.Core.Path.{refl}
+use mathlib.Core.Path.{refl, ◌∙◌}
 use native.Mathlib.Omega.{arith}
 use Rattle.std.proofs.lemmas.Result.{err_from_is_err_and}
-use Rattle.cover.proofs.AnswerLaws.{taken_of, cover-few, refused-policy, refused-number, covered-list}
+use Rattle.cover.proofs.AnswerLaws.{taken_of, refused-policy, refused-number, covered-list}
 use Rattle.cover.proofs.cover.Goals as goal
 
 pub returns-in_err-count : goal.returns-in_err-count
@@ -18,13 +18,7 @@ dependents_of-list-requires c =
     let is = taken_of c.in_ok-count.ensures refl in
     (omega (arith, is.counted), is.few)
 
-pub list_answer-requires : goal.list_answer-requires
-list_answer-requires c =
-    let is = taken_of c.in_ok-count.ensures refl in
-    let list = c.dependents_of-list.ensures in
-    (omega (arith, cover-few _ _ list, is.few), list.few)
-
 pub returns : goal.returns
 returns c =
-    covered-list _ _ _ (taken_of c.in_ok-count.ensures refl) (omega (arith, c.if-number-count.false)) c.dependents_of-list.ensures
-    c.list_answer.ensures
+    covered-list _ _ _ (taken_of c.in_ok-count.ensures refl) (omega (arith, c.if-number-count.false))
+    (c.deref.ensures.0 ∙ c.dependents_of-list.ensures) c.list_answer.ensures

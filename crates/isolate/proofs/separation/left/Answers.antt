@@ -1,55 +1,38 @@
--- `isolate::separation::left` meets its contract: the items are those of the first i that are not separated. Assumes nothing.
-use borrow.Author.Rules.{rules}
-use mathlib.Core.Path.{◌≡◌, ap}
+-- `isolate::separation::left` meets its contract: those of the first items that are not separated. Assumes nothing.
+use native.Mathlib.Omega.{arith}
+use mathlib.Core.Path.{refl, sym, ap, ◌∙◌}
 use mathlib.Core.Bool.{Bool, not}
 use Prim.Native.Nat.{ℕ, ◌<◌}
-use native.Mathlib.Omega.{arith}
-use lib.ListN.{length, length-set}
+use lib.ListN.{length}
 use Rattle.model.specs.Below.{keep}
 use Rattle.model.specs.Isolate.{separates}
 use Rattle.ternary.specs.Sizes.{key_size}
-use Rattle.records.specs.Layout.{most_rules}
 use Rattle.records.specs.Rules.{rules as rules_of}
-use Rattle.isolate.proofs.StandingLaws.{list-none, list_left, list-gone}
+use Rattle.isolate.proofs.StandingLaws.{kept, passed}
 use Rattle.isolate.proofs.separation.left.Goals as goal
 use Rattle.isolate.proofs.separation.left.Goals.{then-not-separates, else-not-separates}
 
-pub loop-i-init : goal.loop-i-init
+pub loop-d-init : goal.loop-d-init
 unfolding keep
-loop-i-init c =
-    let long : length c.args.standing.items ≡ most_rules = search rules in
-    (search rules, omega (arith, long), search rules, search rules, list-none _)
+loop-d-init c = rw c.new-left.ensures (omega arith, refl)
 
-pub separates-requires : goal.separates-requires
-separates-requires c =
-    (c.requires.0, c.requires.1, c.requires.2.at _ c.loop-i-test.true)
-
-pub loop-i-preserved : goal.loop-i-preserved
-loop-i-preserved c =
-    let long : length c.args.standing.items ≡ most_rules = search rules in
+pub loop-d-preserved : goal.loop-d-preserved
+loop-d-preserved c =
     let a = c.args in
-    let gone : ℕ → Bool = separates (rules_of key_size a.policy.now) a.key a.number a.p in
-    let below : c.loop-i.i < length a.standing.items = omega (arith, long) in
+    let stays : ℕ → Bool = λ e. not (separates (rules_of key_size a.policy.now) a.key a.number a.p e) in
+    let items = c.as_slice-d-items.ensures.value in
+    let below : c.loop-d.d-index < length a.standing.now.items = rw items at c.loop-d-test.true in
+    let test = rw (c.from.ensures, items) at c.separates.ensures in
+    let is = c.loop-d.invariant in
     elim c.if-not-separates.branch [
       | then-not-separates w ↦
-          rw (w.items-is, w.count-is) (
-            omega arith,
-            omega arith,
-            omega arith,
-            simp length-set (omega arith),
-            list_left gone a.standing.items _ below _ _ c.loop-i.invariant.4 _ c.separates.ensures (omega arith) (ap not w.if-not-separates.true),
+          rw w.left-is (
+            omega (arith, w.push.ensures.len, is.0),
+            rw (w.push.ensures.items, items, is.1) (kept stays _ _ below (ap not (sym test ∙ w.if-not-separates.true))),
           )
       | else-not-separates w ↦
-          rw (w.items-is, w.count-is) (
-            omega arith,
-            omega arith,
-            omega arith,
-            omega arith,
-            list-gone gone a.standing.items _ below _ _ c.loop-i.invariant.4 _ c.separates.ensures (ap not w.if-not-separates.false),
+          rw w.left-is (
+            omega (arith, is.0),
+            is.1 ∙ passed stays _ _ below (ap not (sym test ∙ w.if-not-separates.false)),
           )
     ]
-
-pub returns : goal.returns
-returns c =
-    let e : c.loop-i.i ≡ c.args.standing.count = omega arith in
-    rw e at c.loop-i.invariant.4

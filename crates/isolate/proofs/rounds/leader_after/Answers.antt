@@ -1,0 +1,27 @@
+-- `isolate::rounds::leader_after` meets its contract: the positions of the byte below q are seen. Assumes nothing.
+use native.Mathlib.Omega.{arith}
+use mathlib.Core.Path.{◌≡◌, ◌∙◌}
+use Prim.Native.Nat.{◌+◌, ◌*◌}
+use native.Mathlib.Nat.{add-zero}
+use Rattle.isolate.proofs.RoundsLaws.{leads-taken, leads-kept}
+use Rattle.isolate.proofs.rounds.leader_after.Goals as goal
+use Rattle.isolate.proofs.rounds.leader_after.Goals.{then-leader-count, else-leader-count}
+
+pub loop-q-init : goal.loop-q-init
+loop-q-init c = rw add-zero c.requires.3
+
+pub loop-q-preserved : goal.loop-q-preserved
+loop-q-preserved c =
+    let b = c.args.b in
+    let q = c.loop-q.q in
+    let step : b * 8 + (q + 1) ≡ b * 8 + q + 1 = omega arith in
+    let count = rw c.deref.ensures.0 at c.marked-count.ensures ∙ c.column_of-column.ensures.each q c.loop-q-test.true in
+    elim c.if-leader-count.branch [
+      | then-leader-count w ↦
+          rw (step, w.leader-is) (leads-taken _ _ _ _ _ c.loop-q.invariant count w.if-leader-count.true)
+      | else-leader-count w ↦
+          rw (step, w.leader-is) (leads-kept _ _ _ _ _ c.loop-q.invariant count w.if-leader-count.false)
+    ]
+
+pub returns : goal.returns
+returns c = let e : c.loop-q.q ≡ 8 = omega arith in rw e at c.loop-q.invariant
