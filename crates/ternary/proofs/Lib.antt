@@ -1,7 +1,6 @@
 -- Rows byte by byte: how a test of bytes is a test of positions, for every width.
 pub mod ByteLaws
 pub mod PatternBytes
-pub mod RowLengths
 -- Laws of the bits of a pattern: counted, and under wildcards.
 pub mod CountLaws
 pub mod StrayBytes

@@ -39,10 +39,9 @@ pub fn fix_bit(pattern: Pattern, key: [u8; KEY_SIZE], p: usize) -> Pattern
 {
     let i = p / 8;
     let one: u8 = 128 >> (p % 8);
-    let mut value = pattern.value;
-    let mut mask = pattern.mask;
+    let mut fixed = pattern;
     // Of the byte's bits only that at p is taken from the key.
-    value[i] = value[i] ^ ((value[i] ^ key[i]) & one);
-    mask[i] = mask[i] | one;
-    Pattern { value, mask }
+    fixed.value[i] ^= (fixed.value[i] ^ key[i]) & one;
+    fixed.mask[i] |= one;
+    fixed
 }

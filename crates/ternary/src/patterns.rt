@@ -9,18 +9,12 @@ use crate::{KEY_SIZE, Pattern};
 pub fn matches(pattern: Pattern, key: [u8; KEY_SIZE]) -> bool
     ensures { result ≡ matches_at positions pattern.value pattern.mask key }
 {
-    let value = pattern.value;
-    let mask = pattern.mask;
-    crate::matches_row(&value, &mask, &key)
+    crate::matches_row(&pattern.value, &pattern.mask, &key)
 }
 
 // Whether no position is exact in both patterns with different values.
 pub fn overlap(a: Pattern, b: Pattern) -> bool
     ensures { result ≡ overlap_at positions a.value a.mask b.value b.mask }
 {
-    let value = a.value;
-    let mask = a.mask;
-    let value2 = b.value;
-    let mask2 = b.mask;
-    crate::overlap_rows(&value, &mask, &value2, &mask2)
+    crate::overlap_rows(&a.value, &a.mask, &b.value, &b.mask)
 }

@@ -1,4 +1,4 @@
--- `policy::rule_action` meets its contract: the two bytes that are read are those of the rule's action. Assumes nothing.
+-- `records::rule::rule_action` meets its contract: the two bytes that are read are those of the rule's action. Assumes nothing.
 use mathlib.Core.Path.{sym, ◌∙◌}
 use Rattle.ternary.specs.Sizes.{key_size}
 use Rattle.records.proofs.RuleLaws.{action-in-place}

@@ -1,4 +1,4 @@
--- `policy::rule_priority` meets its contract: the two bytes that are read are those of the rule's priority. Assumes nothing.
+-- `records::rule::rule_priority` meets its contract: the two bytes that are read are those of the rule's priority. Assumes nothing.
 use mathlib.Core.Path.{sym, ◌∙◌}
 use Rattle.ternary.specs.Sizes.{key_size}
 use Rattle.records.proofs.RuleLaws.{priority-in-place}

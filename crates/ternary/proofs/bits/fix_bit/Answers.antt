@@ -1,4 +1,4 @@
--- `ternary::fixing::fix_bit` meets its contract: one byte of each row is stored, and of that byte one bit is new. Assumes nothing.
+-- `ternary::bits::fix_bit` meets its contract: one byte of each row is stored, and of that byte one bit is new. Assumes nothing.
 use borrow.Author.Rules.{rules}
 use Rattle.ternary.proofs.ByteLaws.{bytes_of}
 use Rattle.ternary.proofs.StoreLaws.{put-merged, put-raised}
