@@ -19,7 +19,10 @@ loop-d-preserved c =
     let is = c.loop-d.invariant in
     elim c.if-bits-ne0.branch [
       | then-bits-ne0 w ↦
-          rw w.column-is (omega (arith, w.push.ensures.len, is.0), rw w.push.ensures.items (marks-more _ _ _ _ below _ is.1 _ (separates-here _ _ _ _ _ _ bits)))
+          rw w.column-is (
+            omega (arith, w.push.ensures.len, is.0),
+            rw w.push.ensures.items (marks-more _ _ _ _ below _ is.1 _ (separates-here _ _ _ _ _ _ bits)),
+          )
       | else-bits-ne0 w ↦
           rw w.column-is (omega arith, marks-same _ _ _ _ below _ is.1 _ (separates-here _ _ _ _ _ _ bits) w.if-bits-ne0.false)
     ]

@@ -19,7 +19,13 @@ loop-bits-preserved c =
     let is = c.loop-bits.invariant in
     elim c.if-bits-q-eq1.branch [
       | then-bits-q-eq1 w ↦
-          rw w.n-is (omega (arith, is.0), count_kept f _ _ c.loop-bits-test.true is.1 (sym (bit-taken c.args.q _) ∙ eq-eqb _ _ w.if-bits-q-eq1.true))
+          rw w.n-is (
+            omega (arith, is.0),
+            count_kept f _ _ c.loop-bits-test.true is.1 (sym (bit-taken c.args.q _) ∙ eq-eqb _ _ w.if-bits-q-eq1.true),
+          )
       | else-bits-q-eq1 w ↦
-          rw w.n-is (omega (arith, is.0), count-passed f _ _ c.loop-bits-test.true is.1 (sym (bit-taken c.args.q _) ∙ ne_eqb _ _ w.if-bits-q-eq1.false))
+          rw w.n-is (
+            omega (arith, is.0),
+            count-passed f _ _ c.loop-bits-test.true is.1 (sym (bit-taken c.args.q _) ∙ ne_eqb _ _ w.if-bits-q-eq1.false),
+          )
     ]
