@@ -32,11 +32,8 @@ impl Layout {
     pub fn label(self, question: &[u8]) -> &[u8]
         ensures { result.now ≡ label_of self.header self.lengths question.now }
     {
-        part(
-            question,
-            self.header,
-            usize::from(byte(question, self.lengths)),
-        )
+        let length = usize::from(byte(question, self.lengths));
+        part(question, self.header, length)
     }
 
     // Each question of a file, up to the first that the file ends before.
