@@ -1,8 +1,6 @@
 // The program: reads slots.txt, policy.bin and trace.bin, and prints what they come to.
 #![tactic(auto)]
 
-ghost use Rattle.std.specs.Prelude.{◌≤◌, length};
-ghost use Rattle.replay_text.specs.Text.{most_text};
 ghost use Rattle.replay_files.specs.Status.{IsStatus};
 ghost use Rattle.std.specs.Counts.{IsPrefixLen};
 
@@ -26,7 +24,8 @@ const BROKEN_PIPE: u8 = 141;
 fn read_all(file: &mut impl Read, buf: &mut [u8]) -> usize
     ensures { IsPrefixLen result buf.new }
 {
-    let mut at: usize = 0;
+    // A loop, since the program's memory is fixed: `read_to_end` needs a Vec, and `read_exact` does not tell how many bytes came before the end.
+    let mut at = 0;
     while at < buf.len() {
         match file.read(&mut buf[at..]) {
             Ok(0) => return at,
@@ -61,47 +60,19 @@ fn unwritten(rt: &impl Eprint, error: io::Error) -> ExitCode
     ExitCode::SUCCESS
 }
 
-// Prints what the files come to, by way of `text`.
-fn print_in(
-    rt: &(impl Print + Eprint),
-    slots: &[u8],
-    policy: &[u8],
-    trace: &[u8],
-    text: &mut [u8],
-) -> ExitCode
-    requires { most_text ≤ length text.old }
+// Prints what the files come to.
+fn print(rt: &(impl Print + Eprint), slots: &[u8], policy: &[u8], trace: &[u8]) -> ExitCode
     ensures { IsStatus result }
 {
-    let n = replay_text::text(slots, policy, trace, text);
-    match rt.write_all(&text[..n]) {
+    let mut out = [0; replay_text::MOST_TEXT];
+    let n = replay_text::text(slots, policy, trace, &mut out);
+    match rt.write_all(&out[..n]) {
         Ok(()) => ExitCode::SUCCESS,
         Err(error) => unwritten(rt, error),
     }
 }
 
-// Room for a policy's file, for a trace's file and for every text.
-
-fn policy_room() -> [u8; POLICY_ROOM] {
-    [0; POLICY_ROOM]
-}
-
-fn trace_room() -> [u8; TRACE_ROOM] {
-    [0; TRACE_ROOM]
-}
-
-fn text_room() -> [u8; replay_text::MOST_TEXT] {
-    [0; replay_text::MOST_TEXT]
-}
-
-// The same, with room for every text.
-fn print(rt: &(impl Print + Eprint), slots: &[u8], policy: &[u8], trace: &[u8]) -> ExitCode
-    ensures { IsStatus result }
-{
-    let mut text = text_room();
-    print_in(rt, slots, policy, trace, &mut text)
-}
-
-// Runs the program over the files of these names, and gives how it ends.
+// Runs the program over the files of these names, and gives how it ends. A name is bytes, since one that is no text counts as a missing file.
 pub fn run(
     rt: &(impl Files + Print + Eprint),
     slots_name: &[u8],
@@ -110,9 +81,9 @@ pub fn run(
 ) -> ExitCode
     ensures { IsStatus result }
 {
-    let mut slots = [0u8; SLOTS_ROOM];
-    let mut policy = policy_room();
-    let mut trace = trace_room();
+    let mut slots = [0; SLOTS_ROOM];
+    let mut policy = [0; POLICY_ROOM];
+    let mut trace = [0; TRACE_ROOM];
     let s = read_file(rt, slots_name, &mut slots);
     let p = read_file(rt, policy_name, &mut policy);
     let t = read_file(rt, trace_name, &mut trace);

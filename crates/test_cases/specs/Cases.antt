@@ -1,5 +1,6 @@
 -- Parts of a file of test cases, and numbers in it. Assumes nothing.
-use Rattle.std.specs.Prelude.{cond, List, [], ℕ, ◌+◌, leb, length, get_or}
+use Rattle.std.specs.Prelude.{◌≡◌, cond, List, [], ℕ, ◌+◌, ◌<◌, leb, length, get_or, Option, MatchOption}
+use Rattle.std.specs.Borrow.{Bor}
 use Rattle.buffers.specs.BigEndian.{be}
 use Rattle.buffers.specs.Parts.{part}
 
@@ -29,3 +30,11 @@ label_of header lengths question = part_in header (get_or question lengths 0) qu
 -- what is copied into `room`: all of `old`, or nothing where the room is shorter
 unfoldable pub copied_in : List ℕ → List ℕ → List ℕ
 copied_in old room = cond (leb (length old) (length room)) old []
+
+-- of the questions that begin at `at` or later the first, and where the next begins; none where the question at `at` is the empty part
+abbrev pub GivesQuestion : ℕ → ℕ → List ℕ → ℕ → Option (Bor (List ℕ)) → ℕ → Type 0
+GivesQuestion header lengths cases at one next =
+    MatchOption
+    one
+    ((question_at header lengths at cases ≡ []) × (next ≡ at))
+    (λ q. (q.now ≡ question_at header lengths at cases) × (0 < length q.now) × (next ≡ at + length q.now))

@@ -1,7 +1,6 @@
-// What test programs share: their files, the questions in them, and saying what came of a question.
+// What test programs share: the questions in a file of cases, and saying what came of a question.
 #![tactic(auto)]
 
-pub mod files;
 pub mod parts;
 pub mod questions;
 pub mod say;

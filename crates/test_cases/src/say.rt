@@ -1,61 +1,67 @@
-// Words, numbers and bytes on standard output, of which no contract can speak. That one can't be written is not told.
+// What test programs print of an answer. No contract can speak of it.
+ghost use Rattle.std.specs.Prelude.{◌≡◌, IfOk};
+
 use checks::refusal::Refusal;
+use std::{fmt, io};
 
 // What every byte of an output is before a call.
 pub const UNTOUCHED: u8 = 238;
 
-// The bytes as they are.
-pub fn say(rt: &impl Print, text: &[u8]) {
-    let _ = rt.write_all(text);
+// Why there is no more to say of a call.
+#[derive(Drop)]
+pub enum Stop {
+    Refused(Refusal),
+    // Standard output can't be written.
+    Unwritten(io::Error),
 }
 
-// A word, and a number after it.
-pub fn say_word(rt: &impl Print, word: &[u8], n: usize) {
-    say(rt, word);
-    let _ = print!(rt; "{n}");
-}
-
-// A word, and bytes after it, two digits each.
-pub fn say_bytes(rt: &impl Print, word: &[u8], s: &[u8]) {
-    say(rt, word);
-    for b in s {
-        let _ = print!(rt; "{b:02x}");
+impl From<Refusal> for Stop {
+    fn from(refusal: Refusal) -> Stop {
+        Stop::Refused(refusal)
     }
 }
 
-// A byte of a text; in the place of `#` the next of the numbers, of which so many are used. Gives how many are used then.
-fn say_place(rt: &impl Print, c: u8, numbers: &[u64], used: usize) -> usize {
-    if c != b'#' {
-        say(rt, &[c]);
-        return used;
-    }
-    if used >= numbers.len() {
-        return used;
-    }
-    let n = numbers[used];
-    let _ = print!(rt; "{n}");
-    used + 1
-}
-
-// The text, with the next of the numbers in the place of each `#`.
-pub fn say_numbers(rt: &impl Print, text: &[u8], numbers: &[u64]) {
-    let mut used = 0;
-    for c in text {
-        used = say_place(rt, *c, numbers, used);
+impl From<io::Error> for Stop {
+    fn from(error: io::Error) -> Stop {
+        Stop::Unwritten(error)
     }
 }
 
-pub fn say_refused(rt: &impl Print, r: Refusal) {
-    say_numbers(rt, b" refused # #", &[r.number as u64, r.place as u64]);
+// Bytes that are printed as two digits each.
+#[derive(Clone, Copy)]
+pub struct Hex<'a>(pub &'a [u8]);
+
+impl fmt::Display for Hex<'_> {
+    fn fmt<W: fmt::Write>(&self, f: &mut fmt::Formatter<W>) -> fmt::Result {
+        for byte in self.0 {
+            write!(f, "{byte:02x}")?;
+        }
+        Ok(())
+    }
+}
+
+pub fn say_refused(rt: &impl Print, refusal: Refusal) -> io::Result<()> {
+    print!(rt; " {refusal}")
+}
+
+// What a call comes to; a refusal is said, and comes to the default.
+pub fn unless_refused<T: Default + Drop>(rt: &impl Print, answer: Result<T, Stop>) -> io::Result<T>
+    ensures { IfOk answer (λ value. result ≡ Ok value) }
+{
+    match answer {
+        Ok(value) => Ok(value),
+        Err(Stop::Refused(refusal)) => {
+            say_refused(rt, refusal)?;
+            Ok(T::default())
+        }
+        Err(Stop::Unwritten(error)) => Err(error),
+    }
 }
 
 // Says so where a byte of an output, the n-th or a later one, is not as it was.
-pub fn say_kept(rt: &impl Print, out: &[u8], n: usize) {
-    let mut i = n;
-    while i < out.len() && out[i] == UNTOUCHED {
-        i += 1;
+pub fn say_kept(rt: &impl Print, out: &[u8], n: usize) -> io::Result<()> {
+    if out.iter().skip(n).any(|byte| *byte != UNTOUCHED) {
+        print!(rt; " changed")?;
     }
-    if i < out.len() {
-        say(rt, b" changed");
-    }
+    Ok(())
 }

@@ -6,207 +6,218 @@ ghost use Rattle.std.specs.Prelude.{◌<◌};
 ghost use Rattle.ternary.specs.Sizes.{key_size};
 ghost use Rattle.records.specs.Rules.{rule_count};
 
-use checks::refusal::{CountAnswer, Verdict};
-use test_cases::files;
+use checks::refusal::Refusal;
+use isolate::rounds::Isolated;
+use policy::search::BestRule;
+use records::layout::RULE_SIZE;
+use std::{fs, io};
+use ternary::{KEY_SIZE, Pattern, bits, patterns};
 use test_cases::parts::{byte, number, part, part_of};
-use test_cases::questions::{label, question};
-use test_cases::say::{UNTOUCHED, say, say_bytes, say_kept, say_numbers, say_refused, say_word};
+use test_cases::questions::Layout;
+use test_cases::say::{Hex, Stop, UNTOUCHED, say_kept, say_refused, unless_refused};
 use test_cases::slots::front;
 
-// A question's record: question, label's length, key's length, zero, then where the policy begins, how long it is, the rule number, the
+// A question's record: call, label's length, key's length, zero, then where the policy begins, how long it is, the rule number, the
 // output's length, zero; then the label and the key.
-const HEADER: usize = 24;
-// Where the lengths of the label and of the key are.
-const LENGTHS: usize = 1;
+const LAYOUT: Layout = Layout {
+    header: 24,
+    lengths: 1,
+};
 
-// Each of the following says what a call answers.
-
-fn say_check(rt: &impl Print, answer: CountAnswer) {
-    match answer {
-        CountAnswer::Refused(r) => say_refused(rt, r),
-        CountAnswer::Count(n) => say_word(rt, b" rules ", n),
-    }
+// What is asked.
+#[derive(Clone, Copy, PartialEq, Eq, Debug)]
+enum Call {
+    Check,
+    Best,
+    Record,
+    Cover,
+    Isolate,
+    Overlap,
+    Match,
 }
 
-fn say_best(rt: &impl Print, answer: policy::BestAnswer) {
-    match answer {
-        policy::BestAnswer::Refused(r) => say_refused(rt, r),
-        policy::BestAnswer::NoRule => say(rt, b" none"),
-        policy::BestAnswer::Rule { number, action } => {
-            say_numbers(rt, b" rule # action #", &[number as u64, action as u64]);
+// A number that no call has.
+#[derive(Clone, Copy, PartialEq, Eq, Debug)]
+struct UnknownCall;
+
+impl TryFrom<u8> for Call {
+    type Error = UnknownCall;
+
+    fn try_from(number: u8) -> Result<Call, UnknownCall> {
+        match number {
+            1 => Ok(Call::Check),
+            2 => Ok(Call::Best),
+            3 => Ok(Call::Record),
+            4 => Ok(Call::Cover),
+            5 => Ok(Call::Isolate),
+            6 => Ok(Call::Overlap),
+            7 => Ok(Call::Match),
+            _ => Err(UnknownCall),
         }
     }
 }
 
-// The record with the answer beside it.
-fn say_record(rt: &impl Print, answer: Verdict, record: &[u8]) {
-    match answer {
-        Verdict::Refused(r) => say_refused(rt, r),
-        Verdict::Fine => say(rt, b" "),
+// A question's parts; the room is that of the output, or the other rule's number.
+#[derive(Clone, Copy)]
+struct Given<'a> {
+    policy: &'a [u8],
+    key: &'a [u8],
+    number: usize,
+    room: usize,
+}
+
+impl<'a> Given<'a> {
+    fn of(policies: &'a [u8], question: &'a [u8]) -> Given<'a> {
+        let label = usize::from(byte(question, LAYOUT.lengths));
+        let key = usize::from(byte(question, LAYOUT.lengths + 1));
+        Given {
+            policy: part_of(policies, question, 4),
+            key: part(question, LAYOUT.header + label, key),
+            number: number(question, 12),
+            room: number(question, 16),
+        }
     }
-    say_bytes(rt, b"", record);
+}
+
+// Each of the following makes a call and says what it answers.
+
+fn ask_check(rt: &impl Print, policy: &[u8]) -> Result<(), Stop> {
+    let n = policy::check(policy)?;
+    print!(rt; " rules {n}")?;
+    Ok(())
+}
+
+fn ask_best(rt: &impl Print, policy: &[u8], key: &[u8]) -> Result<(), Stop> {
+    match policy::best(policy, key)? {
+        Some(BestRule { number, action }) => print!(rt; " rule {number} action {action}")?,
+        None => print!(rt; " none")?,
+    }
+    Ok(())
+}
+
+// The record with the answer before it.
+fn ask_record(rt: &impl Print, policy: &[u8], number: usize) -> io::Result<()> {
+    match policy::record::record_answer(policy, number) {
+        Ok(()) => print!(rt; " ")?,
+        Err(refusal) => say_refused(rt, refusal)?,
+    }
+    let record = Hex(policy::record::rule_record(policy, number));
+    print!(rt; "{record}")
 }
 
 // Gives how many numbers the output has.
-fn say_cover(rt: &impl Print, answer: CountAnswer) -> usize {
-    match answer {
-        CountAnswer::Refused(r) => {
-            say_refused(rt, r);
-            0
-        }
-        CountAnswer::Count(n) => {
-            say(rt, b" covers");
-            n
-        }
-    }
+fn say_cover(rt: &impl Print, answer: Result<usize, Refusal>) -> Result<usize, Stop> {
+    let n = answer?;
+    print!(rt; " covers")?;
+    Ok(n)
 }
 
-// Says the first n numbers of two bytes, at most 2,048, and gives where they end.
-fn say_list(rt: &impl Print, out: &[u8], n: usize) -> usize {
-    let mut i = 0;
-    while i < 2048 && i < n {
-        say_word(rt, b" ", 256 * byte(out, 2 * i) + byte(out, 2 * i + 1));
-        i += 1;
+// The first n numbers of two bytes.
+fn say_list(rt: &impl Print, out: &[u8], n: usize) -> io::Result<()> {
+    for two in out.chunks_exact(2).take(n) {
+        let number = u16::from_be_bytes([two[0], two[1]]);
+        print!(rt; " {number}")?;
     }
-    2 * i
+    Ok(())
 }
 
 // The cover list in the first bytes of an output, whose other bytes must stay as they were.
-fn cover_in(rt: &impl Print, policy: &[u8], number: usize, room: usize, out: &mut [u8]) {
-    let n = say_cover(rt, cover::cover(policy, number, front(out, room)));
-    say_kept(rt, out, say_list(rt, out, n));
-}
-
-// The same in an output of its own.
-fn ask_cover(rt: &impl Print, policy: &[u8], number: usize, room: usize) {
+fn ask_cover(rt: &impl Print, policy: &[u8], number: usize, room: usize) -> io::Result<()> {
     let mut out = [UNTOUCHED; 4096];
-    cover_in(rt, policy, number, room, &mut out);
+    let answer = cover::cover(policy, number, front(&mut out, room));
+    let n = unless_refused(rt, say_cover(rt, answer))?;
+    say_list(rt, &out, n)?;
+    say_kept(rt, &out, n.saturating_mul(2))
 }
 
-fn say_isolated(rt: &impl Print, answer: isolate::IsolateAnswer) {
-    let verdict = answer.verdict;
-    let value = answer.value;
-    let mask = answer.mask;
-    match verdict {
-        Verdict::Refused(r) => say_refused(rt, r),
-        Verdict::Fine => {
-            say_bytes(rt, b" value ", &value);
-            say_bytes(rt, b" mask ", &mask);
-            say_numbers(
-                rt,
-                b" fixed # wildcards #",
-                &[answer.fixed as u64, answer.wildcards as u64],
-            );
-        }
-    }
-}
-
-// Whether rules a and b of a policy overlap.
-fn ask_overlap(rt: &impl Print, policy: &[u8], a: usize, b: usize) {
-    let n = policy.len() / records::layout::RULE_SIZE;
-    if a >= n {
-        return;
-    }
-    if b >= n {
-        return;
-    }
-    if ternary::patterns::overlap(pattern(policy, a), pattern(policy, b)) {
-        say(rt, b" overlap");
-    } else {
-        say(rt, b" apart");
-    }
-}
-
-// Whether a rule of a policy takes the key, and how many of its bits are exact and how many are wildcards.
-fn ask_match(rt: &impl Print, policy: &[u8], key: &[u8], number: usize) {
-    if number >= policy.len() / records::layout::RULE_SIZE {
-        return;
-    }
-    if key.len() != ternary::KEY_SIZE {
-        return;
-    }
-    let its = pattern(policy, number);
-    let mask = its.mask;
-    if ternary::patterns::matches(its, records::row::row_at(key, 0)) {
-        say(rt, b" matches");
-    } else {
-        say(rt, b" differs");
-    }
-    say_numbers(
-        rt,
-        b" exact # wildcards #",
-        &[
-            ternary::bits::exact_bits(mask) as u64,
-            ternary::bits::wildcard_bits(mask) as u64,
-        ],
-    );
+fn ask_isolate(rt: &impl Print, policy: &[u8], key: &[u8], number: usize) -> Result<(), Stop> {
+    let Isolated {
+        value,
+        mask,
+        fixed,
+        wildcards,
+    } = isolate::isolate(policy, key, number)?;
+    let value = Hex(&value);
+    let mask = Hex(&mask);
+    print!(rt; " value {value} mask {mask} fixed {fixed} wildcards {wildcards}")?;
+    Ok(())
 }
 
 // The pattern of the i-th rule.
-fn pattern(policy: &[u8], i: usize) -> ternary::Pattern
+fn pattern(policy: &[u8], i: usize) -> Pattern
     requires { i < rule_count key_size policy.now }
 {
     let rule = records::rule::rule_at(policy, i);
     let value = rule.value;
     let mask = rule.mask;
-    ternary::Pattern { value, mask }
+    Pattern { value, mask }
 }
 
-// The call of that number.
-fn call(rt: &impl Print, what: usize, policy: &[u8], key: &[u8], number: usize, room: usize) {
-    match what {
-        1 => say_check(rt, policy::check(policy)),
-        2 => say_best(rt, policy::best(policy, key)),
-        3 => say_record(
-            rt,
-            policy::record::record_answer(policy, number),
-            policy::record::rule_record(policy, number),
-        ),
-        4 => ask_cover(rt, policy, number, room),
-        5 => say_isolated(rt, isolate::isolate(policy, key, number)),
-        6 => ask_overlap(rt, policy, number, room),
-        7 => ask_match(rt, policy, key, number),
-        _ => say(rt, b" unknown question"),
+// Whether rules a and b of a policy overlap.
+fn ask_overlap(rt: &impl Print, policy: &[u8], a: usize, b: usize) -> io::Result<()> {
+    let n = policy.len() / RULE_SIZE;
+    if a >= n || b >= n {
+        return Ok(());
     }
+    if patterns::overlap(pattern(policy, a), pattern(policy, b)) {
+        print!(rt; " overlap")
+    } else {
+        print!(rt; " apart")
+    }
+}
+
+// Whether a rule of a policy takes the key, and how many of its bits are exact and how many are wildcards.
+fn ask_match(rt: &impl Print, policy: &[u8], key: &[u8], number: usize) -> io::Result<()> {
+    if number >= policy.len() / RULE_SIZE || key.len() != KEY_SIZE {
+        return Ok(());
+    }
+    let its = pattern(policy, number);
+    let mask = its.mask;
+    let word = if patterns::matches(its, records::row::row_at(key, 0)) {
+        "matches"
+    } else {
+        "differs"
+    };
+    let exact = bits::exact_bits(mask);
+    let wildcards = bits::wildcard_bits(mask);
+    print!(rt; " {word} exact {exact} wildcards {wildcards}")
+}
+
+// Makes the call, and says what it answers.
+fn ask_call(rt: &impl Print, call: Call, given: Given) -> Result<(), Stop> {
+    let Given {
+        policy,
+        key,
+        number,
+        room,
+    } = given;
+    match call {
+        Call::Check => ask_check(rt, policy)?,
+        Call::Best => ask_best(rt, policy, key)?,
+        Call::Record => ask_record(rt, policy, number)?,
+        Call::Cover => ask_cover(rt, policy, number, room)?,
+        Call::Isolate => ask_isolate(rt, policy, key, number)?,
+        Call::Overlap => ask_overlap(rt, policy, number, room)?,
+        Call::Match => ask_match(rt, policy, key, number)?,
+    }
+    Ok(())
 }
 
 // One question: its label, and what comes of its call.
-fn ask(rt: &impl Print, policies: &[u8], question: &[u8]) {
-    let policy = part_of(policies, question, 4);
-    let key = part(
-        question,
-        HEADER + byte(question, LENGTHS),
-        byte(question, LENGTHS + 1),
-    );
-    say(rt, label(question, HEADER, LENGTHS));
-    call(
-        rt,
-        byte(question, 0),
-        policy,
-        key,
-        number(question, 12),
-        number(question, 16),
-    );
-    say(rt, b"\n");
-}
-
-// Each question, one after the other.
-fn ask_all(rt: &impl Print, policies: &[u8], cases: &[u8]) {
-    let mut at: usize = 0;
-    while at < cases.len() {
-        let one = question(cases, at, HEADER, LENGTHS);
-        if one.len() == 0 {
-            return;
-        }
-        ask(rt, policies, one);
-        at += one.len();
+fn ask(rt: &impl Print, policies: &[u8], question: &[u8]) -> io::Result<()> {
+    rt.write_all(LAYOUT.label(question))?;
+    match Call::try_from(byte(question, 0)) {
+        Ok(call) => unless_refused(rt, ask_call(rt, call, Given::of(policies, question)))?,
+        Err(UnknownCall) => print!(rt; " unknown question")?,
     }
+    print!(rt; "\n")
 }
 
-fn main(rt: HostRuntime) {
-    let mut policies = files::room();
-    let mut cases = files::cases_room();
-    let p = files::read(&rt, b"policies.bin", &mut policies);
-    let c = files::read(&rt, b"cases.bin", &mut cases);
-    ask_all(&rt, &policies[..p], &cases[..c]);
+fn main(rt: HostRuntime) -> io::Result<()> {
+    let policies = fs::read(&rt, "policies.bin")?;
+    let cases = fs::read(&rt, "cases.bin")?;
+    for question in LAYOUT.questions(&cases) {
+        ask(&rt, &policies, question)?;
+    }
+    Ok(())
 }

@@ -1,9 +1,0 @@
--- `replay_files::print_in` meets its contract: what is written lies in the output. Assumes what std says of a write.
-use Rattle.lines.proofs.PutLaws.{counts}
-use Rattle.replay_files.proofs.print_in.Goals as goal
-
-pub slice_bounds-write_all-end : goal.slice_bounds-write_all-end
-slice_bounds-write_all-end g c = (counts c.text-n.ensures).0
-
-pub slice_bounds-write_all-end-2 : goal.slice_bounds-write_all-end-2
-slice_bounds-write_all-end-2 g c = (counts c.text-n.ensures).1
