@@ -15,6 +15,7 @@ use text::Line;
 use totals::Totals;
 
 // An outcome's line: outcome, action, rule, slot, evicted rule.
+#[tactic(auto, using(std::proofs::Common::append_assoc), unfolding(crate::specs::Printed::outcome_line))]
 pub(crate) fn outcome_line(bytes: &[u8]) -> Line
     requires { length bytes.now ≡ outcome_size }
     ensures { result ≡ outcome_line (decode_outcome bytes.now) }
@@ -30,6 +31,7 @@ pub(crate) fn outcome_line(bytes: &[u8]) -> Line
 }
 
 // The last line of a run: packets, hits, misses, no rule, evictions.
+#[tactic(auto, using(std::proofs::Common::append_assoc), unfolding(crate::specs::Printed::totals_line))]
 pub fn totals_line(totals: Totals) -> Line
     ensures { result ≡ totals_line (as_totals totals) }
 {
@@ -43,12 +45,15 @@ pub fn totals_line(totals: Totals) -> Line
 }
 
 // The one line of a refusal: `refused`, number, place.
+#[tactic(auto, using(std::proofs::Common::append_assoc), unfolding(crate::specs::Printed::refusal_line))]
 pub fn refusal_line(refusal: Refusal) -> Line
     ensures { result ≡ refusal_line (number_of refusal) (place_of refusal) }
 {
     let mut line = Line::new();
     line.push_text(b"refused ");
     line.push_number(u64::from(refusal.number()), b' ');
-    line.push_number(refusal.place() as u64, b'\n');
+    // A cast: no u64::from takes a usize.
+    line.push_number(refusal.place() as u64, b'
+');
     line
 }

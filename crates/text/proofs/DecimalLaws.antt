@@ -19,7 +19,7 @@ unfolding decimal_in
 decimal-more k n l = rw (le-ltb n 10 l)
 
 -- a decimal is what the library prints
-pub decimal-printed : (n : ℕ) → n < 2 ^ 64 → decimal n ≡ printed n
-decimal-printed n l =
+pub decimal_is_printed : (n : ℕ) → n < 2 ^ 64 → decimal n ≡ printed n
+decimal_is_printed n l =
     decimal_from_appends decimal_in (record { one = decimal-one; more = decimal-more }) most_digits n l
     (length-decimal-le most_digits n (omega arith) (omega arith) l)

@@ -27,7 +27,7 @@ use Rattle.model.proofs.OrderLaws.{first-at, foremost-none}
 use Rattle.records.specs.Layout.{most_slots}
 use Rattle.text.specs.Decimal.{decimal_in, decimal}
 use Rattle.text.specs.Words.{newline, line_of}
-use Rattle.text.proofs.DecimalLaws.{decimal-printed}
+use Rattle.text.proofs.DecimalLaws.{decimal_is_printed}
 use Rattle.text.specs.SlotsText.{says_slots, slots_in}
 
 -- a number from 1 to 256 and the text that says it
@@ -57,7 +57,7 @@ module _ (text : List ℕ) where
       let e : decimal m ≡ decimal n = append_cancel_right (decimal m) (decimal n) (newline ∷ []) (sym s.line ∙ t.line) in
       let a : m < 2 ^ 64 = omega (arith, s.few) in
       let b : n < 2 ^ 64 = omega (arith, t.few) in
-      decimal_injective m n a b (sym (decimal-printed m a) ∙ e ∙ decimal-printed n b)
+      decimal_injective m n a b (sym (decimal_is_printed m a) ∙ e ∙ decimal_is_printed n b)
 
   slots-said : (n : ℕ) → slots_in text ≡ Some n → Said text n
   unfolding slots_in
@@ -136,7 +136,7 @@ module _ (text digits : List ℕ) (cut : text ≡ digits ++ (newline ∷ [])) wh
   -- the digits are what the library prints of the number
   spelt : (n : ℕ) → Said text n → digits ≡ printed n
   spelt n s =
-      append_cancel_right digits (decimal n) (newline ∷ []) (sym cut ∙ s.line) ∙ decimal-printed n (omega (arith, s.few))
+      append_cancel_right digits (decimal n) (newline ∷ []) (sym cut ∙ s.line) ∙ decimal_is_printed n (omega (arith, s.few))
 
   pub no-digit : (49 ≤ get_or digits 0 0 → 58 ≤ get_or digits 0 0) → None ≡ slots_in text
   no-digit other = none-said text (λ n s.
@@ -173,7 +173,9 @@ module _ (text digits : List ℕ) (cut : text ≡ digits ++ (newline ∷ [])) wh
         let got = rw (is, plain) at read in
         let small : digits_value 10 digits < 2 ^ 64 = got.0.1 in
         let own = numerals_by_value (AllDigits 10) tells_digits in
-        let printed-is : printed (digits_value 10 digits) ≡ digits = decimal-digits_value own digits got.0.0.1 got.0.0.0 (λ e. absurd (omega arith)) small in
+        let printed-is : printed (digits_value 10 digits) ≡ digits =
+        decimal-digits_value own digits got.0.0.1 got.0.0.0 (λ e. absurd (omega arith)) small
+        in
         let printed-same : printed m ≡ digits = subst (λ (j : ℕ). printed j ≡ digits) (sym got.1) printed-is in
-        let spelt-is : decimal m ≡ digits = decimal-printed m (omega arith) ∙ printed-same in
+        let spelt-is : decimal m ≡ digits = decimal_is_printed m (omega arith) ∙ printed-same in
         said-slots text m (record { some = not-zero m digits spelt-is low; few = few; line = cut ∙ rw spelt-is })

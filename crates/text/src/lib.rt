@@ -26,8 +26,6 @@ pub struct Line {
 }
 
 impl Model for Line {
-    ghost use Rattle.std.specs.Prelude.{ℕ, List};
-
     ghost Value = { List ℕ };
 
     ghost view = { λ line. line.bytes.items };
@@ -52,6 +50,7 @@ impl Line {
     }
 
     // Puts a number and a byte after what the line says.
+    #[tactic(auto, using(crate::proofs::DecimalLaws::decimal_is_printed, std::proofs::Common::append_assoc))]
     pub fn push_number(&mut self, n: u64, after: u8)
         requires { length self.old + word_size ≤ line_size }
         ensures text { self.new ≡ self.old ++ (decimal n ++ after ∷ []) }
@@ -62,6 +61,7 @@ impl Line {
     }
 
     // The same of a rule or a slot; a dash where there is none.
+    #[tactic(auto, using(std::proofs::Common::append_assoc), unfolding(crate::specs::Words::or_dash))]
     pub fn push_number_or_dash(&mut self, n: u16, after: u8)
         requires { length self.old + word_size ≤ line_size }
         ensures text { self.new ≡ self.old ++ (or_dash n ++ after ∷ []) }

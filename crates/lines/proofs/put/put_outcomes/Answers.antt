@@ -21,4 +21,7 @@ loop-outcome-preserved c =
     )
 
 pub returns-clause-lines : goal.returns-clause-lines
-returns-clause-lines c = let i = c.loop-outcome.invariant in let step = c.in-None.ensures.steps in listed-all _ _ _ c.requires.1 i.3 (omega (arith, step.1.0, i.2))
+returns-clause-lines c =
+    let i = c.loop-outcome.invariant in
+    let step = c.in-None.ensures.steps in
+    listed-all _ _ _ c.requires.1 i.3 (omega (arith, step.1.0, i.2))
