@@ -53,7 +53,6 @@ pub fn refusal_line(refusal: Refusal) -> Line
     line.push_text(b"refused ");
     line.push_number(u64::from(refusal.number()), b' ');
     // A cast: no u64::from takes a usize.
-    line.push_number(refusal.place() as u64, b'
-');
+    line.push_number(refusal.place() as u64, b'\n');
     line
 }
