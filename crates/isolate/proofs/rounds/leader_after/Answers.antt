@@ -2,13 +2,9 @@
 use native.Mathlib.Omega.{arith}
 use mathlib.Core.Path.{◌≡◌, ◌∙◌}
 use Prim.Native.Nat.{◌+◌, ◌*◌}
-use native.Mathlib.Nat.{add-zero}
 use Rattle.isolate.proofs.RoundsLaws.{leads-taken, leads-kept}
 use Rattle.isolate.proofs.rounds.leader_after.Goals as goal
 use Rattle.isolate.proofs.rounds.leader_after.Goals.{then-leader-count, else-leader-count}
-
-pub loop-q-init : goal.loop-q-init
-loop-q-init c = rw add-zero c.requires.3
 
 pub loop-q-preserved : goal.loop-q-preserved
 loop-q-preserved c =
@@ -22,6 +18,3 @@ loop-q-preserved c =
       | else-leader-count w ↦
           rw (step, w.leader-is) (leads-kept _ _ _ _ _ c.loop-q.invariant count w.if-leader-count.false)
     ]
-
-pub returns : goal.returns
-returns c = let e : c.loop-q.q ≡ 8 = omega arith in rw e at c.loop-q.invariant
