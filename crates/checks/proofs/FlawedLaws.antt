@@ -53,8 +53,8 @@ module _ {g : List ℕ → Option Flaw} {size : ℕ} {bs : List ℕ} where
       flawed-here n f l h =
           let there : flaw_at g size bs i ≡ Some f = sym next ∙ h in
           sym (ap (option_and_then (flawed_at (flaw_at g size bs)))
-                  (first_found (λ k. is_some (flaw_at g size bs k)) n i is.passed l (ap is_some there))
-               ∙ ap (option_map {U = Flawed} (λ (y : Flaw). record { place = i; flaw = y })) there)
+          (first_found (λ k. is_some (flaw_at g size bs k)) n i is.passed l (ap is_some there))
+          ∙ ap (option_map {U = Flawed} (λ (y : Flaw). record { place = i; flaw = y })) there)
 
 -- ---- all records are clean
 
@@ -72,7 +72,7 @@ unfolding first_flawed
 all-clean f n = (
   λ e i l.
       let nowhere =
-          missed f (first_below (λ k. is_some (f k)) n) (λ k found. (foremost-some (λ j. is_some (f j)) ltb n k found).1) e in
+      missed f (first_below (λ k. is_some (f k)) n) (λ k found. (foremost-some (λ j. is_some (f j)) ltb n k found).1) e in
       none-of (f i) (foremost-none (λ k. is_some (f k)) ltb n nowhere i l),
   λ h. ap (option_and_then (flawed_at f)) (first-missed (λ k. is_some (f k)) n n (record { at = λ k l. ap is_some (h k l) }) (omega arith)),
 )

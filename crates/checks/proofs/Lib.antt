@@ -5,4 +5,5 @@ pub mod CleanLaws
 pub mod RefusalLaws
 -- How an end's buffer of slots is refused.
 pub mod FitLaws
+
 -- Laws of the first flawed record.

@@ -14,7 +14,9 @@ use records::layout;
 // A kind of record: its size, how many there may be, and what is wrong with one.
 pub trait Record {
     ghost SIZE: { ℕ };
+
     ghost MOST: { ℕ };
+
     ghost flaw_of: { List ℕ → Option FlawOf };
 
     const SIZE: usize;

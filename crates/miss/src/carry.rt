@@ -23,11 +23,7 @@ pub fn put_new_entry(keeper: &mut [u8], outcome: u8, x: Write)
 }
 
 // Carries a decision out: refusal 5 where a write is given; a new entry goes into its slot, and the write into `out`.
-pub(crate) fn carry_out(
-    d: Decision,
-    keeper: &mut [u8],
-    out: &mut [u8],
-) -> Result<Outcome, Refusal>
+pub(crate) fn carry_out(d: Decision, keeper: &mut [u8], out: &mut [u8]) -> Result<Outcome, Refusal>
     requires { d.write.slot < slot_count key_size keeper.old }
     ensures { CarriedOut d keeper.old out.old result keeper.new out.new }
 {

@@ -21,7 +21,12 @@ fn on_miss(policy: &[u8], key: &[u8], keeper: &mut [u8], out: &mut [u8]) -> Resu
 }
 
 // A miss arrives: refusals 1, 2 and 3 of the policy, 1 of the key, 4 of the keeper, then 5; a refusal changes nothing.
-pub fn miss(policy: &[u8], key: &[u8], keeper: &mut [u8], out: &mut [u8]) -> Result<Outcome, Refusal>
+pub fn miss(
+    policy: &[u8],
+    key: &[u8],
+    keeper: &mut [u8],
+    out: &mut [u8],
+) -> Result<Outcome, Refusal>
     ensures { Missed policy.now key.now keeper.old out.old result
         keeper.new out.new }
 {

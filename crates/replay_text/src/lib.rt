@@ -21,12 +21,7 @@ use totals::Totals;
 pub const MOST_TEXT: usize = LINE_SIZE * (layout::MOST_PACKETS + 1);
 
 // Writes what a run came to, whose output is `records`: its refusal's line, or a line for each packet and the totals.
-fn put_ran(
-    answer: Result<usize, Refusal>,
-    totals: Totals,
-    records: &[u8],
-    out: &mut [u8],
-) -> usize
+fn put_ran(answer: Result<usize, Refusal>, totals: Totals, records: &[u8], out: &mut [u8]) -> usize
     requires { (packets_of answer ≤ most_packets) × (outcome_size * most_packets ≤ length records.now) × (most_text ≤ length out.old) }
     ensures { TextPut (ran_text answer (as_totals totals) records.now) out.old result out.new }
 {

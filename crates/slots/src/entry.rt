@@ -15,7 +15,14 @@ use end_records::write::Write;
 fn written(w: Write) -> Slot
     ensures { as_slot result ≡ newly_written (entry_in (as_write w)) }
 {
-    let Write { sequence, value, mask, action, rule, .. } = w;
+    let Write {
+        sequence,
+        value,
+        mask,
+        action,
+        rule,
+        ..
+    } = w;
     Slot {
         sequence,
         hits: 0,

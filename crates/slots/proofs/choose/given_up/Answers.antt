@@ -12,10 +12,10 @@ pub loop-i-preserved : goal.loop-i-preserved
 loop-i-preserved c =
     let is = c.loop-i.invariant in
     let e = c.given_up_before.ensures in
-      elim c.if-given_up_before.branch [
-        | then-given_up_before w ↦ rw w.best-is (first_taken _ is e w.if-given_up_before.true)
-        | else-given_up_before w ↦ rw w.best-is (first-kept _ is e w.if-given_up_before.false)
-      ]
+    elim c.if-given_up_before.branch [
+      | then-given_up_before w ↦ rw w.best-is (first_taken _ is e w.if-given_up_before.true)
+      | else-given_up_before w ↦ rw w.best-is (first-kept _ is e w.if-given_up_before.false)
+    ]
 
 pub returns : goal.returns
 returns c = let l = c.loop-i in first_done _ l.invariant (omega (arith, l.auto.i-end c.requires, c.loop-i-test.false))
