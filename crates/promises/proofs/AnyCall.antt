@@ -50,7 +50,7 @@ use Rattle.promises.proofs.Meaning.{Formed, keeper-whole, keeper-room, keeper-sl
 
 -- the model's record as the code's struct
 abbrev totals_struct : Totals → TotalsStruct
-totals_struct t = record { packets = t.packets; hits = t.hits; misses = t.misses; None = t.no_rule; evictions = t.evictions }
+totals_struct t = record { packets = t.packets; hits = t.hits; misses = t.misses; none = t.no_rule; evictions = t.evictions }
 
 module _ {count : ℕ} {s : State} (f : Formed count s) where
   abbrev k : List Slot
