@@ -28,20 +28,14 @@ const MOST_TOTAL: u64 = 9000000000000000000;
 fn one_of(outcome: u8, kind: u8) -> u64
     ensures { One (eqb outcome kind) result }
 {
-    if outcome == kind { 1 } else { 0 }
+    u64::from(outcome == kind)
 }
 
 // 1 where the outcome is a miss, else 0.
 fn one_miss(outcome: u8) -> u64
     ensures { One (is_miss outcome) result }
 {
-    if outcome < kinds::TO_EMPTY {
-        return 0;
-    }
-    if kinds::AGAIN < outcome {
-        return 0;
-    }
-    1
+    u64::from(matches!(outcome, kinds::TO_EMPTY..=kinds::AGAIN))
 }
 
 // The totals after one packet more.
@@ -59,20 +53,13 @@ pub fn advanced(t: Totals, x: Outcome) -> Totals
 }
 
 // Whether no total is above the limit.
+#[tactic(auto, unfolding(crate::specs::Sums::totals_fit))]
 pub fn totals_fit(t: Totals) -> bool
     ensures { result ≡ totals_fit (as_totals t) }
 {
-    if MOST_TOTAL < t.packets {
-        return false;
-    }
-    if MOST_TOTAL < t.hits {
-        return false;
-    }
-    if MOST_TOTAL < t.misses {
-        return false;
-    }
-    if MOST_TOTAL < t.none {
-        return false;
-    }
-    t.evictions <= MOST_TOTAL
+    t.packets <= MOST_TOTAL
+        && t.hits <= MOST_TOTAL
+        && t.misses <= MOST_TOTAL
+        && t.none <= MOST_TOTAL
+        && t.evictions <= MOST_TOTAL
 }
