@@ -40,13 +40,8 @@ fn given_up_before(keeper: &[u8], a: usize, b: usize) -> bool
 {
     let hits = fields::hits_at(keeper, a);
     let others = fields::hits_at(keeper, b);
-    if hits < others {
-        return true;
-    }
-    if hits == others {
-        return fields::sequence_at(keeper, a) < fields::sequence_at(keeper, b);
-    }
-    false
+    hits < others
+        || hits == others && fields::sequence_at(keeper, a) < fields::sequence_at(keeper, b)
 }
 
 // The slot that is given up first, the lowest of several.
