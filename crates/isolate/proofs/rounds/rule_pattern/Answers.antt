@@ -7,6 +7,6 @@ use Rattle.isolate.proofs.rounds.rule_pattern.Goals as goal
 pub returns : goal.returns
 returns c =
     record {
-      value-is = c.row_at-value.ensures ∙ sym (value-in-place key_size c.args.policy.now c.args.number c.requires);
-      mask_is = c.row_at-mask.ensures ∙ sym (mask-in-place key_size c.args.policy.now c.args.number c.requires);
+      value-is = c.pattern_at.ensures.0 ∙ sym (value-in-place key_size c.args.policy.now c.args.number c.requires);
+      mask_is = c.pattern_at.ensures.1 ∙ sym (mask-in-place key_size c.args.policy.now c.args.number c.requires);
     }
