@@ -11,9 +11,9 @@ ghost use Rattle.isolate.specs.Structs.{as_isolated, with_counts, PatternOf};
 use crate::separation::{column_of, left, marked};
 use cover::dependents::dependents_of;
 use lists::Numbers;
-use records::layout;
 use records::layout::KEY_SIZE;
-use records::row::{pattern_at, row_at};
+use records::row::row_at;
+use records::rule::rule_at;
 use ternary::Pattern;
 
 // A rule isolated for a key: the pattern, the number of fixed bits, and the wildcard bits left.
@@ -29,7 +29,7 @@ fn rule_pattern(policy: &[u8], number: usize) -> Pattern
     requires { number < rule_count key_size policy.now }
     ensures { PatternOf (rules key_size policy.now) number result.value result.mask }
 {
-    pattern_at(policy, layout::RULE_SIZE * number + layout::RULE_VALUE)
+    rule_at(policy, number).pattern
 }
 
 // The pattern with the number of its bits that were fixed, and its wildcard bits counted.
