@@ -1,6 +1,6 @@
 // The rounds of isolating: each fixes the position that separates the most of the dependents that stand.
 ghost use Rattle.std.specs.Prelude.{◌≡◌, ◌+◌, ◌*◌, ◌<◌, All};
-ghost use Rattle.model.specs.Isolate.{separates, chosen, isolate};
+ghost use Rattle.model.specs.Isolate.{isolate};
 ghost use Rattle.model.specs.Policy.{best, dependents as dependents_at};
 ghost use Rattle.ternary.specs.Sizes.{key_size, positions};
 ghost use Rattle.records.specs.Rules.{rule_count, rules};
@@ -79,22 +79,8 @@ fn leader_after(
     leader
 }
 
-// The position that separates the most of the standing, the lowest on a tie.
-fn chosen(policy: &[u8], key: [u8; KEY_SIZE], number: usize, standing: &Numbers) -> usize
-    requires { (number < rule_count key_size policy.now) × All (λ d. d < rule_count key_size policy.now) standing.now.items }
-    ensures { result ≡ chosen (separates (rules key_size policy.now) key number) positions standing.now.items }
-{
-    let mut leader = Leader {
-        position: 0,
-        count: 0,
-    };
-    for b in 0..KEY_SIZE {
-        leader = leader_after(policy, key, number, standing, b, leader);
-    }
-    leader.position
-}
-
 // The rule isolated for the key, whose best it is. Its dependents all stand at first.
+// Rounds left by label around a scan whose position comes out by break: the form that docs/SENTENCES.md names for this place.
 fn isolate_rule(policy: &[u8], key: [u8; KEY_SIZE], number: usize, dependents: Numbers) -> Isolated
     requires { (number < rule_count key_size policy.now) × (best positions (rules key_size policy.now) key ≡ Some number) ×
         (dependents.items ≡ dependents_at positions (rules key_size policy.now) number) }
@@ -103,8 +89,22 @@ fn isolate_rule(policy: &[u8], key: [u8; KEY_SIZE], number: usize, dependents: N
     let mut pattern = rule_pattern(policy, number);
     let mut standing = dependents;
     let mut fixed: usize = 0;
-    'rounds: while !standing.is_empty() {
-        let p = chosen(policy, key, number, &standing);
+    'rounds: loop {
+        if standing.is_empty() {
+            break 'rounds;
+        }
+        let mut leader = Leader {
+            position: 0,
+            count: 0,
+        };
+        let mut b = 0;
+        let p = 'scan: loop {
+            if b == KEY_SIZE {
+                break 'scan leader.position;
+            }
+            leader = leader_after(policy, key, number, &standing, b, leader);
+            b += 1;
+        };
         pattern = ternary::bits::fix_bit(pattern, key, p);
         standing = left(policy, key, number, p, &standing);
         fixed += 1;

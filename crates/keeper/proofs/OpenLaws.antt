@@ -45,6 +45,12 @@ module _ (keeper : List ℕ) (i : ℕ) {xs : List ℕ} (is : xs ≡ list_below (
   unfolding open_list
   open_done e = listed-all (open_at keeper) ltb is (omega (arith, slot-count key_size keeper))
 
+-- ---- the list is no longer than the keeper
+
+pub list-few : (keeper : List ℕ) → length (open_in keeper) ≤ slot_count key_size keeper
+unfolding open_list
+list-few keeper = omega (arith, listed-few (open_at keeper) ltb (length (slots key_size keeper)), slot-count key_size keeper)
+
 -- ---- each way out
 
 pub few-slots : (keeper : List ℕ) {b : Bool} → b ≡ slots_fit keeper → b ≡ true → slot_count key_size keeper ≤ most_slots

@@ -40,7 +40,7 @@ use Rattle.totals.specs.declared.Totals.{Totals as TotalsStruct}
 use Rattle.run.specs.Send.{ends_in}
 use Rattle.run.specs.Refusals.{run_refusal}
 use Rattle.run.specs.Runs.{outcomes_of, ends_of, run_of, RunIs}
-use Rattle.run.specs.Runs.{Ran}
+use Rattle.run.specs.declared.Ran.{Ran}
 use Rattle.promises.specs.Calls.{State}
 use Rattle.promises.specs.AnyCall.{AnyCall}
 use Rattle.promises.proofs.PacketBytes.{trace-byte}

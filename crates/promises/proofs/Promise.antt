@@ -8,7 +8,6 @@ use Rattle.std.specs.Prelude.{Option, None, Some, Ok, option_map}
 use Prim.Native.Nat.{ℕ, ◌*◌, ◌≤◌, ◌<◌}
 use native.Mathlib.Omega.{arith}
 use lib.ListN.{length, take}
-use lib.Seq.{take_all}
 use borrow.Author.Tests.{eq-eqb, le-ltb}
 use Rattle.model.specs.Bits.{Bytes}
 use Rattle.ends.specs.Records.{Slot, entry_of, entry_at}
@@ -83,9 +82,7 @@ module _ (policy : List ℕ) (fine : policy_refusal policy ≡ None) {count : �
   unfolding open_refusal
   opens out_len l =
       let xs : List ℕ = open_in s.keeper in
-      let short : length xs ≤ slot_count key_size s.keeper =
-      list-few s.keeper (record { few = omega arith; same = take_all (length xs) xs (omega arith) })
-      in
+      let short : length xs ≤ slot_count key_size s.keeper = list-few s.keeper in
       rw ((slots-accepted s.keeper).1 (keeper-whole f), le-ltb out_len (2 * length xs) (omega (arith, f.keeper-long)))
 
   -- an entry by its bytes, and in the list of slots

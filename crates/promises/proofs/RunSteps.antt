@@ -20,7 +20,7 @@ use Rattle.miss.specs.Decision.{policy_view}
 use Rattle.run.specs.Send.{ends_in}
 use Rattle.run.specs.Refusals.{run_refusal}
 use Rattle.run.specs.Runs.{ends_of, RunResult, run_of, RunIs}
-use Rattle.run.specs.Runs.{Ran}
+use Rattle.run.specs.declared.Ran.{Ran}
 use Rattle.promises.specs.Calls.{State, after, run as run_call}
 use Rattle.promises.proofs.PacketBytes.{trace-byte}
 use Rattle.promises.proofs.Grown.{Grown, grown-step, grown-run}

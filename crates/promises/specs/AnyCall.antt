@@ -12,7 +12,7 @@ use Rattle.keeper.specs.Opens.{Opened}
 use Rattle.records.specs.declared.outcome.Outcome.{Outcome as OutcomeStruct}
 use Rattle.miss.specs.Answers.{Missed}
 use Rattle.run.specs.Runs.{RunIs}
-use Rattle.run.specs.Runs.{Ran}
+use Rattle.run.specs.declared.Ran.{Ran}
 use Rattle.checks.specs.declared.refusal.Refusal.{Refusal}
 use Rattle.promises.specs.Calls.{State, cleared_ends, Call, Sequence, Throughout}
 

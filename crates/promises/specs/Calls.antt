@@ -18,7 +18,7 @@ use Rattle.miss.specs.Answers.{miss_refused, Missed}
 use Rattle.run.specs.Refusals.{run_refusal}
 use Rattle.run.specs.Runs.{RunIs}
 use Rattle.checks.specs.declared.refusal.Refusal.{Refusal}
-use Rattle.run.specs.Runs.{Ran}
+use Rattle.run.specs.declared.Ran.{Ran}
 
 -- the buffers of the two ends, and the bytes of every message that an accepted call gave, the last first
 pub record State : Type 0 where

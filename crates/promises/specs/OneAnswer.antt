@@ -18,7 +18,7 @@ use Rattle.records.specs.declared.outcome.Outcome.{Outcome as OutcomeStruct}
 use Rattle.miss.specs.Answers.{Missed}
 use Rattle.ends.specs.Records.{Totals}
 use Rattle.run.specs.Runs.{RunIs, result_of as gathered}
-use Rattle.run.specs.Runs.{Ran}
+use Rattle.run.specs.declared.Ran.{Ran}
 use Rattle.totals.specs.declared.Totals.{Totals as TotalsStruct}
 use Rattle.c_answers.specs.declared.structs.WgBestAnswer.{WgBestAnswer}
 use Rattle.c_answers.specs.declared.structs.WgCount.{WgCount}

@@ -20,7 +20,7 @@ use Rattle.records.proofs.SlotBufferLaws.{whole-slots}
 use Rattle.totals.specs.Sums.{as_totals, totals_fit}
 use Rattle.run.specs.Refusals.{trace_refusal, ends_refusal, run_refusal}
 use Rattle.run.specs.Runs.{RunIs}
-use Rattle.run.specs.Runs.{Ran}
+use Rattle.run.specs.declared.Ran.{Ran}
 use Rattle.run_laws.specs.Calls.{PastRun, Made}
 use Rattle.run_laws.proofs.AcceptedRuns.{AcceptedRun, accepted-run, refused-by, read_back}
 use Rattle.replay_text.specs.Files.{most_trace_bytes}

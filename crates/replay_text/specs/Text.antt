@@ -12,7 +12,7 @@ use Rattle.totals.specs.Sums.{as_totals}
 use Rattle.policy.specs.Refusals.{policy_refusal}
 use Rattle.run.specs.Refusals.{trace_refusal}
 use Rattle.run.specs.Runs.{outcomes_of}
-use Rattle.run.specs.Runs.{Ran}
+use Rattle.run.specs.declared.Ran.{Ran}
 use Rattle.text.specs.Line.{line_size}
 use Rattle.lines.specs.Printed.{outcome_line, totals_line, refusal_line}
 use Rattle.lines.specs.Listing.{lines_in}

@@ -7,13 +7,12 @@ ghost use Rattle.std.specs.Prelude.{◌≡◌, ◌*◌, ◌≤◌, length};
 ghost use Rattle.records.specs.Layout.{outcome_size, most_packets, most_slots};
 ghost use Rattle.totals.specs.Sums.{as_totals};
 ghost use Rattle.lines.specs.Listing.{TextPut};
-ghost use Rattle.run.specs.Runs.{ran};
 ghost use Rattle.replay_text.specs.Files.{most_trace_bytes};
 ghost use Rattle.replay_text.specs.Text.{cleared_end, ran_text, packets_of, most_text, RanCleared, outcomes_from};
 ghost use Rattle.replay_text.specs.Text.{call_refusal, text_for, text_of_replay};
 
-use checks::refusal::Refusal;
 use records::layout;
+use run::Ran;
 use text::LINE_SIZE;
 use totals::Totals;
 
@@ -21,15 +20,15 @@ use totals::Totals;
 pub const MOST_TEXT: usize = LINE_SIZE * (layout::MOST_PACKETS + 1);
 
 // Writes what a run came to, whose output is `records`: its refusal's line, or a line for each packet and the totals.
-fn put_ran(answer: Result<usize, Refusal>, totals: Totals, records: &[u8], out: &mut [u8]) -> usize
-    requires { (packets_of answer ≤ most_packets) × (outcome_size * most_packets ≤ length records.now) × (most_text ≤ length out.old) }
-    ensures { TextPut (ran_text answer (as_totals totals) records.now) out.old result out.new }
+fn put_ran(ran: Ran, records: &[u8], out: &mut [u8]) -> usize
+    requires { (packets_of ran.answer ≤ most_packets) × (outcome_size * most_packets ≤ length records.now) × (most_text ≤ length out.old) }
+    ensures { TextPut (ran_text ran.answer (as_totals ran.totals) records.now) out.old result out.new }
 {
-    match answer {
+    match ran.answer {
         Err(refusal) => lines::put::put_line(lines::refusal_line(refusal), out, 0),
         Ok(count) => {
             let at = lines::put::put_outcomes(records, count, out);
-            lines::put::put_line(lines::totals_line(totals), out, at)
+            lines::put::put_line(lines::totals_line(ran.totals), out, at)
         }
     }
 }
@@ -41,29 +40,22 @@ fn cleared() -> [u8; layout::SLOT_SIZE * layout::MOST_SLOTS]
     [0; layout::SLOT_SIZE * layout::MOST_SLOTS]
 }
 
-// Runs the trace from cleared ends of n slots; the outcomes go to `records`. The answer, and the totals after it.
-fn run_cleared(
-    n: usize,
-    policy: &[u8],
-    trace: &[u8],
-    records: &mut [u8],
-) -> (Result<usize, Refusal>, Totals)
+// Runs the trace from cleared ends of n slots; the outcomes go to `records`.
+fn run_cleared(n: usize, policy: &[u8], trace: &[u8], records: &mut [u8]) -> Ran
     requires { (1 ≤ n) × (n ≤ most_slots) × (length trace.now ≤ most_trace_bytes) × (length records.old ≡ outcome_size * most_packets) }
-    ensures { RanCleared n policy.now trace.now (ran result.0 result.1) records.new }
+    ensures { RanCleared n policy.now trace.now result records.new }
 {
     let mut table = cleared();
     let mut keeper = cleared();
-    let mut totals = Totals::default();
     let size = layout::SLOT_SIZE * n;
-    let answer = run::run(
+    run::run(
         policy,
         trace,
         &mut table[..size],
         &mut keeper[..size],
         records,
-        &mut totals,
-    );
-    (answer, totals)
+        Totals::default(),
+    )
 }
 
 // Room for the outcomes of every trace.
@@ -80,8 +72,8 @@ fn put_run(n: usize, policy: &[u8], trace: &[u8], out: &mut [u8]) -> usize
         (outcomes_from n policy.now trace.now)) out.old result out.new }
 {
     let mut records = outcome_room();
-    let (answer, totals) = run_cleared(n, policy, trace, &mut records);
-    put_ran(answer, totals, &records, out)
+    let ran = run_cleared(n, policy, trace, &mut records);
+    put_ran(ran, &records, out)
 }
 
 // Writes what the program prints of these files to the start of `out`, and gives its length; every other byte stays.

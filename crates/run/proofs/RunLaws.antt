@@ -31,7 +31,7 @@ use Rattle.totals.specs.Sums.{as_totals, most_total, totals_fit, AtMost}
 use Rattle.totals.proofs.SumLaws.{fit-most}
 use Rattle.run.specs.Steps.{RunFits, RanOver}
 use Rattle.run.specs.Refusals.{trace_refusal, ends_refusal, run_refusal}
-use Rattle.run.specs.Runs.{RunResult, run_of, RunIs, ran}
+use Rattle.run.specs.Runs.{RunResult, run_of, RunIs}
 
 -- ---- where no part is refused
 
@@ -90,14 +90,14 @@ module _ (policy trace table keeper out : List ℕ) (t : TotalsStruct) where
   refused = run_refusal policy trace table keeper (length out) (as_totals t)
 
   pub run-refused : {r : Refusal} {a : Result ⊤ Refusal} → a ≡ verdict_of refused → a ≡ Err r
-      → RunIs policy trace table keeper out (as_totals t) (ran (Err r) t) table keeper out
+      → RunIs policy trace table keeper out (as_totals t) (record { answer = Err r; totals = t }) table keeper out
   unfolding run_of
   run-refused e s = let o = verdict-refused refused e s in record { whole = rw o; meaning = rw o }
 
   pub run_ran : {s : TotalsStruct} {table' keeper' out' : List ℕ} → refused ≡ None
       → RanOver policy (keys key_size trace) table keeper out (as_totals t) table' keeper' out' (as_totals s)
       → length table' ≡ length table → Bytes table' → length keeper' ≡ length keeper → Bytes keeper'
-      → RunIs policy trace table keeper out (as_totals t) (ran (Ok (packet_count key_size trace)) s) table' keeper' out'
+      → RunIs policy trace table keeper out (as_totals t) (record { answer = Ok (packet_count key_size trace); totals = s }) table' keeper' out'
   unfolding run_of
   run_ran {table' = table'} {keeper'} o did l h m g =
       let w = (run_fits policy trace table keeper out (as_totals t) o).0 in

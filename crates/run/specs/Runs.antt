@@ -13,7 +13,7 @@ use Rattle.totals.specs.Sums.{as_totals}
 use Rattle.run.specs.Send.{ends_in}
 use Rattle.run.specs.Steps.{told_by, ends_after}
 use Rattle.run.specs.Refusals.{run_refusal}
-use Rattle.totals.specs.declared.Totals.{Totals as TotalsStruct}
+use Rattle.run.specs.declared.Ran.{Ran}
 
 -- the model's run over the decoded bytes: its outcomes, and the two ends after it
 abbrev pub outcomes_of : List ℕ → List ℕ → List ℕ → List ℕ → List Outcome
@@ -49,14 +49,6 @@ run_of policy trace table keeper out t = run_result_of (run_refusal policy trace
 abbrev pub ends_left : Option Refusal → List ℕ → List ℕ → List ℕ → List ℕ → Ends
 ends_left (Some r) policy trace table keeper = ends_in table keeper
 ends_left None policy trace table keeper = ends_of policy trace table keeper
-
--- what a run answers, and the totals after it
-pub record Ran : Type 0 where
-  pub answer : Result ℕ Refusal
-  pub totals : TotalsStruct
-
-abbrev pub ran : Result ℕ Refusal → TotalsStruct → Ran
-ran answer totals = record { answer = answer; totals = totals }
 
 abbrev pub result_of : Ran → List ℕ → List ℕ → List ℕ → RunResult
 result_of r table keeper out = record { answer = r.answer; totals = as_totals r.totals; table = table; keeper = keeper; out = out }

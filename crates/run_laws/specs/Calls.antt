@@ -9,7 +9,7 @@ use Rattle.records.specs.Outcomes.{decode_outcome}
 use Rattle.totals.specs.Sums.{as_totals}
 use Rattle.run.specs.Runs.{RunIs}
 use Rattle.checks.specs.declared.refusal.Refusal.{Refusal}
-use Rattle.run.specs.Runs.{Ran}
+use Rattle.run.specs.declared.Ran.{Ran}
 
 -- a call that was made: the buffers that it was lent, what it answered, and the buffers after it
 pub record PastRun : Type 0 where

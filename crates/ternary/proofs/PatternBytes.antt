@@ -63,45 +63,15 @@ module _ (w : ℕ) (value mask key : List ℕ) where
   agrees-byte i h = by_byte agrees i _ h (agrees_at i)
 
   -- a pattern matches a key where no byte refuses
-  matches-yes : (i : ℕ) → Passed (λ k. refused_in value mask key k ≡ 0) i → w ≤ i → true ≡ matches (w * 8) value mask key
+  pub matches-yes : (i : ℕ) → Passed (λ k. refused_in value mask key k ≡ 0) i → w ≤ i → true ≡ matches (w * 8) value mask key
   unfolding matches
   matches-yes i is h = row-yes agrees w i (λ k l. agrees-byte k (omega (arith, is.at k l)) ∙ eq-eqb _ 0 (is.at k l)) h
 
-  matches-no : (i : ℕ) → i < w → Bytes value → Bytes key → (refused_in value mask key i ≡ 0 → ⊥) → false ≡ matches (w * 8) value mask key
+  pub matches-no : (i : ℕ) → i < w → Bytes value → Bytes key → (refused_in value mask key i ≡ 0 → ⊥) → false ≡ matches (w * 8) value mask key
   unfolding matches
   matches-no i l hv hk ne =
       let small = xor_lt 8 (get_or key i 0) (get_or value i 0) (hk.byte i) (hv.byte i) in
       row-no agrees w i l (agrees-byte i (lt_of_le_of_lt (and_le_l _ (get_or mask i 0)) small) ∙ ne_eqb _ 0 ne)
-
--- the same of the bytes taken three by three, a value's, a mask's and a key's
-abbrev pub refused_of : (ℕ × ℕ) × ℕ → ℕ
-refused_of t = refuses t.0.0 t.0.1 t.1
-
-module _ (value mask key : List ℕ) (hv : Bytes value) (hk : Bytes key)
-    (mask-long : length mask ≡ length value) (key-long : length key ≡ length value) where
-  abbrev triples : List ((ℕ × ℕ) × ℕ)
-  triples = zip (zip value mask) key
-
-  triples-long : length triples ≡ length value
-  triples-long = length-zip (zip value mask) key ∙ omega (arith, length-zip value mask)
-
-  triple_at : (i : ℕ) → i < length value → refused_of (get_or triples i ((0, 0), 0)) ≡ refused_in value mask key i
-  triple_at i l =
-      rw (
-        get_or-zip (zip value mask) key i ((0, 0), 0) (omega (arith, length-zip value mask)) (omega arith),
-        get_or-zip value mask i (0, 0) l (omega arith),
-      )
-
-  pub matches-triples : (r : Bool)
-      → MatchBool r (AllWithin (λ t. refused_of t ≡ 0) triples 0 (length triples))
-      ((k : ℕ) × (k < length triples) × HoldsAt (λ t. refused_of t ≡ 0 → ⊥) triples k)
-      → r ≡ matches (length value * 8) value mask key
-  matches-triples true is =
-      matches-yes (length value) value mask key (length value)
-      (none-fails refused_of (refused_in value mask key) triples ((0, 0), 0) (length value) triples-long triple_at is) (le_refl (length value))
-  matches-triples false is =
-      matches-no (length value) value mask key is.0 (omega (arith, is.1, triples-long)) hv hk
-      (fails-here refused_of (refused_in value mask key) triples ((0, 0), 0) (length value) triples-long triple_at is.0 is.1 is.2)
 
 -- ---- two patterns
 
@@ -151,7 +121,7 @@ module _ (w : ℕ) (v₁ m₁ v₂ m₂ : List ℕ) where
       row-no together w i l
       (together-byte i (lt_of_le_of_lt (and_le_l _ (get_or m₂ i 0)) (lt_of_le_of_lt (and_le_l _ (get_or m₁ i 0)) small)) ∙ ne_eqb _ 0 ne)
 
--- the same of the bytes taken four by four
+-- the same of the bytes taken four by four, a value's and a mask's of each
 abbrev pub parted_of : (ℕ × ℕ) × (ℕ × ℕ) → ℕ
 parted_of t = differs t.0.0 t.0.1 t.1.0 t.1.1
 

@@ -68,7 +68,8 @@ module _ (value mask : List ℕ) (hv : Bytes value) (hm : Bytes mask) (same : le
   -- what the search of the pairs in order finds is the first stray
   pub first-pair : (r : Option ℕ)
       → MatchOption r (AllWithin (λ p. strays_of p ≡ 0) (zip value mask) 0 (length (zip value mask)))
-      (λ i. (i < length (zip value mask)) × HoldsAt (λ p. strays_of p ≡ 0 → ⊥) (zip value mask) i × AllWithin (λ p. strays_of p ≡ 0) (zip value mask) 0 i)
+      (λ i. (i < length (zip value mask)) × HoldsAt (λ p. strays_of p ≡ 0 → ⊥) (zip value mask) i
+      × AllWithin (λ p. strays_of p ≡ 0) (zip value mask) 0 i)
       → r ≡ first_stray (length value) value mask
   unfolding first_stray
   first-pair None is =

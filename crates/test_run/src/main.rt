@@ -5,6 +5,7 @@
 
 use checks::refusal::Refusal;
 use records::layout::{MOST_PACKETS, OUTCOME_SIZE};
+use run::Ran;
 use std::{fs, io};
 use test_cases::parts::{number, part, part_of};
 use test_cases::questions::Layout;
@@ -70,12 +71,12 @@ fn ask(rt: &impl Print, question: &[u8], buffers: &[u8]) -> io::Result<()> {
     let trace = part_of(buffers, question, 12);
     let old_table = part_of(buffers, question, 20);
     let old_keeper = part_of(buffers, question, 28);
-    let mut totals = totals_at(part(buffers, number(question, 36), 40));
+    let totals = totals_at(part(buffers, number(question, 36), 40));
     let table = copied(old_table, &mut table);
     let keeper = copied(old_keeper, &mut keeper);
     let room = front(&mut out, number(question, 40));
     rt.write_all(LAYOUT.label(question))?;
-    let answer = run::run(policy, trace, table, keeper, room, &mut totals);
+    let Ran { answer, totals } = run::run(policy, trace, table, keeper, room, totals);
     let n = unless_refused(rt, say_answer(rt, answer))?;
     say_totals(rt, totals)?;
     let told = Hex(part(&out, 0, n));

@@ -16,5 +16,7 @@ pub fn wg_run(
     ensures { RunCall policy.now trace.now table.old keeper.old out.old
         totals.old result totals.new table.new keeper.new out.new }
 {
-    run::run(policy, trace, table, keeper, out, totals).into()
+    let ran = run::run(policy, trace, table, keeper, out, *totals);
+    *totals = ran.totals;
+    ran.answer.into()
 }

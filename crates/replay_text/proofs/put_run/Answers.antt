@@ -4,4 +4,4 @@ use Rattle.replay_text.proofs.put_run.Goals as goal
 
 pub returns : goal.returns
 returns c =
-    same-put c.run_cleared-answer.ensures.text c.put_ran.ensures
+    same-put c.run_cleared-ran.ensures.text c.put_ran.ensures

@@ -18,6 +18,6 @@ returns c =
     let n = c.args.n in
     let table = lent-end n c.cleared-table.result (search rules) c.cleared-table.ensures in
     let keeper = lent-end n c.cleared-keeper.result (search rules) c.cleared-keeper.ensures in
-    let h = c.default-totals.ensures in
-    let z : as_totals c.default-totals.result ≡ cleared_totals = rw (h.0, h.1.0, h.1.1.0, h.1.1.1.0, h.1.1.1.1) in
-    ran-cleared n (search rules) (search rules) _ _ (search rules) table keeper (search rules) (rw z at c.run-answer.ensures)
+    let h = c.default.ensures in
+    let z : as_totals c.default.result ≡ cleared_totals = rw (h.0, h.1.0, h.1.1.0, h.1.1.1.0, h.1.1.1.1) in
+    ran-cleared n (search rules) (search rules) _ _ (search rules) table keeper (search rules) (rw z at c.run.ensures)

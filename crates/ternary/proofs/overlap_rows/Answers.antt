@@ -11,7 +11,8 @@ pub returns : goal.returns
 returns c =
     let a = c.args in
     let r = c.requires in
-    overlap-fours a.value.now a.mask.now a.value2.now a.mask2.now (bytes_of _ c.type_inv.value) (bytes_of _ c.type_inv.value2) r.0 r.1 r.2 c.all.result
+    overlap-fours a.value.now a.mask.now a.value2.now a.mask2.now (bytes_of _ c.type_inv.value) (bytes_of _ c.type_inv.value2)
+    r.0 r.1 r.2 c.all.result
     (cases_from_all c.all.new.self _ c.all.result (λ t. parted_of t ≡ 0) (λ t. parted_of t ≡ 0 → ⊥) c.all.ensures.ran
     (YieldsList-from_zip (YieldsList-from_zip (YieldsList-from_slice a.value.now cc) (YieldsList-from_slice a.mask.now cc))
     (YieldsList-from_zip (YieldsList-from_slice a.value2.now cc) (YieldsList-from_slice a.mask2.now cc)))

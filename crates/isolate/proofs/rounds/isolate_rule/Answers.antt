@@ -1,40 +1,64 @@
 -- `isolate::rounds::isolate_rule` meets its contract: a turn of the rounds is a round of the model. Assumes nothing.
 use mathlib.Core.Path.{◌≡◌, ◌∙◌}
 use borrow.Author.Rules.{rules}
-use Prim.Native.Nat.{◌<◌}
+use Prim.Native.Nat.{ℕ, ◌+◌, ◌*◌, ◌<◌}
+use native.Mathlib.Omega.{arith}
+use mathlib.Core.List.{List}
 use lib.ListN.{length}
-use Rattle.ternary.specs.Sizes.{key_size}
+use Rattle.model.specs.Policy.{Rule}
+use Rattle.model.specs.Isolate.{separates, chosen}
+use Rattle.ternary.specs.Sizes.{key_size, positions}
+use Rattle.isolate.specs.Leads.{separated, Leads}
 use Rattle.records.proofs.RuleLaws.{rule-count}
-use Rattle.isolate.proofs.RoundsLaws.{going_start, going-under, going-stop, going_less, going_next, chosen-inside}
+use Rattle.isolate.proofs.RoundsLaws.{going_start, going-under, going-stop, going_less, going_next, chosen-inside, leads-none}
 use Rattle.isolate.proofs.rounds.isolate_rule.Goals as goal
 
 pub rounds-init : goal.rounds-init
 rounds-init c = going_start _ _ _ _ _ _ c.requires.2 c.requires.1 c.rule_pattern-pattern.ensures
 
--- the standing are rules of the policy
-pub chosen-p-requires : goal.chosen-p-requires
-chosen-p-requires c = (c.requires.0, going-under _ _ _ _ _ _ _ _ _ c.rounds.invariant (rule-count key_size _))
+pub scan-init : goal.scan-init
+scan-init c = (search rules, leads-none _)
+
+pub leader_after-leader-requires : goal.leader_after-leader-requires
+leader_after-leader-requires c = (
+  c.requires.0,
+  omega (arith, c.scan.invariant.0, c.if-b-eq-KEY_SIZE.false),
+  going-under _ _ _ _ _ _ _ _ _ c.rounds.invariant (rule-count key_size _),
+  c.scan.invariant.1,
+)
+
+pub scan-preserved : goal.scan-preserved
+scan-preserved c =
+    let step : (c.scan.b + 1) * 8 ≡ c.scan.b * 8 + 8 = omega arith in
+    (omega (arith, c.scan.invariant.0, c.if-b-eq-KEY_SIZE.false), rw step c.leader_after-leader.ensures)
+
+-- once all positions are seen, the leader is the position that the model chooses
+leads-all : (pol : List Rule) (key : List ℕ) (i b best most : ℕ) (xs : List ℕ) → Leads (separated pol key i xs) (b * 8) best most → b ≡ key_size
+    → best ≡ chosen (separates pol key i) positions xs
+unfolding chosen
+leads-all pol key i b best most xs is e = rw e at is.first
 
 pub fix_bit-pattern-requires : goal.fix_bit-pattern-requires
-fix_bit-pattern-requires c = rw c.chosen-p.ensures (chosen-inside _ _ _ (search rules))
+fix_bit-pattern-requires c = rw (leads-all _ _ _ _ _ _ _ c.scan.invariant.1 c.if-b-eq-KEY_SIZE.true) (chosen-inside _ _ _ (search rules))
 
 pub left-standing-requires : goal.left-standing-requires
 left-standing-requires c = (
   c.requires.0,
-  rw c.chosen-p.ensures (chosen-inside _ _ _ (search rules)),
+  rw (leads-all _ _ _ _ _ _ _ c.scan.invariant.1 c.if-b-eq-KEY_SIZE.true) (chosen-inside _ _ _ (search rules)),
   going-under _ _ _ _ _ _ _ _ _ c.rounds.invariant (rule-count key_size _),
 )
 
 pub rounds-smaller : goal.rounds-smaller
 rounds-smaller c =
     let some : 0 < length c.rounds.standing.items = search rules in
-    going_less _ _ _ _ _ _ _ _ _ c.rounds.invariant c.chosen-p.ensures c.left-standing.ensures some
+    going_less _ _ _ _ _ _ _ _ _ c.rounds.invariant (leads-all _ _ _ _ _ _ _ c.scan.invariant.1 c.if-b-eq-KEY_SIZE.true)
+    c.left-standing.ensures some
 
 pub rounds-preserved : goal.rounds-preserved
 rounds-preserved c =
     let some : 0 < length c.rounds.standing.items = search rules in
-    going_next _ _ _ _ _ _ _ _ _ c.rounds.invariant c.chosen-p.ensures c.left-standing.ensures some
-    c.fix_bit-pattern.ensures.value-put c.fix_bit-pattern.ensures.mask-put
+    going_next _ _ _ _ _ _ _ _ _ c.rounds.invariant (leads-all _ _ _ _ _ _ _ c.scan.invariant.1 c.if-b-eq-KEY_SIZE.true)
+    c.left-standing.ensures some c.fix_bit-pattern.ensures.value-put c.fix_bit-pattern.ensures.mask-put
 
 -- none stands
 pub returns : goal.returns

@@ -10,4 +10,4 @@ with-answer : {s : RunResultForC} {n : WgCount} → n ≡ s.answer
 with-answer {s} e i = record { answer = e i; totals = s.totals; table = s.table; keeper = s.keeper; out = s.out }
 
 pub returns : goal.returns
-returns c = with-answer c.into.ensures ∙ ap run_for_c c.run.ensures.whole
+returns c = with-answer c.into.ensures ∙ ap run_for_c c.run-ran.ensures.whole
