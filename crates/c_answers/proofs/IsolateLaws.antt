@@ -50,7 +50,7 @@ module _ (policy key : List ℕ) (number : ℕ) (a : Result Isolated Refusal) (e
       call-short l n = let free = (told x t).0 in record { answer = rw (free, lt-ltb _ _ l) n; out-after = rw (free, lt-ltb _ _ l) }
 
       pub call-isolated : (out' : List ℕ) → pattern_size ≤ length out → w ≡ isolated_counts x.fixed x.wildcards
-          → out' ≡ splice 0 (x.value ++ x.mask) out → IsolateCall policy key number out w out'
+          → out' ≡ splice 0 (x.pattern.value ++ x.pattern.mask) out → IsolateCall policy key number out w out'
       unfolding pattern_refusal
       call-isolated out' l n p =
           let free = (told x t).0 in
@@ -58,6 +58,6 @@ module _ (policy key : List ℕ) (number : ℕ) (a : Result Isolated Refusal) (e
           n ∙ ap (λ (y : Isolated). isolated_counts y.fixed y.wildcards) (told x t).1
           in
           let pattern : out' ≡ splice 0 ((isolated_in policy key number).value ++ (isolated_in policy key number).mask) out =
-          p ∙ ap (λ (y : Isolated). splice 0 (y.value ++ y.mask) out) (told x t).1
+          p ∙ ap (λ (y : Isolated). splice 0 (y.pattern.value ++ y.pattern.mask) out) (told x t).1
           in
           record { answer = rw (free, le-ltb _ _ l) counts; out-after = rw (free, le-ltb _ _ l) pattern }

@@ -9,6 +9,7 @@ use crate::structs::WgIsolated;
 use checks::refusal::Refusal;
 use records::layout;
 use records::layout::PATTERN_SIZE;
+use ternary::Pattern;
 
 // Of a refusal.
 fn refused_numbers(refusal: Refusal) -> WgIsolated
@@ -36,12 +37,12 @@ fn isolated_numbers(fixed: usize, wildcards: usize) -> WgIsolated
 }
 
 // Writes a pattern to the start of `out`, value then mask; every other byte stays.
-fn put_pattern(out: &mut [u8], value: [u8; layout::KEY_SIZE], mask: [u8; layout::KEY_SIZE])
+fn put_pattern(out: &mut [u8], pattern: Pattern)
     requires { pattern_size ≤ length out.old }
-    ensures { out.new ≡ splice 0 (value ++ mask) out.old }
+    ensures { out.new ≡ splice 0 (pattern.value ++ pattern.mask) out.old }
 {
-    buffers::put_bytes(out, 0, &value);
-    buffers::put_bytes(out, layout::KEY_SIZE, &mask);
+    buffers::put_bytes(out, 0, &pattern.value);
+    buffers::put_bytes(out, layout::KEY_SIZE, &pattern.mask);
 }
 
 // Isolates the key's best rule, and writes its pattern to the start of `out`; a refusal leaves it as it was.
@@ -55,6 +56,6 @@ pub fn isolate_with(policy: &[u8], key: &[u8], number: usize, out: &mut [u8]) ->
     if out.len() < PATTERN_SIZE {
         return refused_numbers(Refusal::ShortOutput);
     }
-    put_pattern(out, isolated.value, isolated.mask);
+    put_pattern(out, isolated.pattern);
     isolated_numbers(isolated.fixed, isolated.wildcards)
 }

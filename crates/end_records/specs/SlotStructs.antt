@@ -7,8 +7,8 @@ as_slot x =
     record {
       sequence = x.sequence;
       hits = x.hits;
-      value = x.value;
-      mask = x.mask;
+      value = x.pattern.value;
+      mask = x.pattern.mask;
       action = x.action;
       rule = x.rule;
       settled = x.settled;

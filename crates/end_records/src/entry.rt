@@ -6,6 +6,7 @@ ghost use Rattle.buffers.specs.Parts.{splice};
 ghost use Rattle.records.specs.Layout.{slot_size};
 
 use records::layout;
+use ternary::Pattern;
 
 // What follows the rows.
 pub(crate) fn tail_bytes(first: u16, second: u16, third: u8, last: u8) -> [u8; layout::TAIL_SIZE]
@@ -28,14 +29,13 @@ fn with_part(mut b: [u8; layout::SLOT_SIZE], at: usize, part: &[u8]) -> [u8; lay
 // The whole record.
 pub(crate) fn entry_bytes(
     head: [u8; layout::SLOT_VALUE],
-    value: [u8; layout::KEY_SIZE],
-    mask: [u8; layout::KEY_SIZE],
+    pattern: Pattern,
     tail: [u8; layout::TAIL_SIZE],
 ) -> [u8; layout::SLOT_SIZE]
-    ensures { result ≡ head ++ (value ++ (mask ++ tail)) }
+    ensures { result ≡ head ++ (pattern.value ++ (pattern.mask ++ tail)) }
 {
     let b = with_part([0; layout::SLOT_SIZE], 0, &head);
-    let b = with_part(b, layout::SLOT_VALUE, &value);
-    let b = with_part(b, layout::SLOT_MASK, &mask);
+    let b = with_part(b, layout::SLOT_VALUE, &pattern.value);
+    let b = with_part(b, layout::SLOT_MASK, &pattern.mask);
     with_part(b, layout::SLOT_ACTION, &tail)
 }

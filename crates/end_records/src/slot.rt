@@ -9,15 +9,15 @@ ghost use Rattle.end_records.specs.SlotStructs.{as_slot};
 
 use crate::entry::{entry_bytes, tail_bytes};
 use records::layout;
-use records::row::row_at;
+use records::row::pattern_at;
+use ternary::Pattern;
 
 // A slot of either end, all bytes of it.
 #[derive(Clone, Copy)]
 pub struct Slot {
     pub sequence: u32,
     pub hits: u32,
-    pub value: [u8; layout::KEY_SIZE],
-    pub mask: [u8; layout::KEY_SIZE],
+    pub pattern: Pattern,
     pub action: u16,
     pub rule: u16,
     pub settled: u8,
@@ -29,13 +29,10 @@ fn slot_of(t: &[u8]) -> Slot
     requires { length t.now ≡ slot_size key_size }
     ensures { as_slot result ≡ decode_slot key_size t.now }
 {
-    let value = row_at(t, layout::SLOT_VALUE);
-    let mask = row_at(t, layout::SLOT_MASK);
     Slot {
         sequence: buffers::be32(t, layout::SLOT_SEQUENCE),
         hits: buffers::be32(t, layout::SLOT_HITS),
-        value,
-        mask,
+        pattern: pattern_at(t, layout::SLOT_VALUE),
         action: buffers::be16(t, layout::SLOT_ACTION),
         rule: buffers::be16(t, layout::SLOT_RULE),
         settled: t[layout::SLOT_SETTLED],
@@ -74,11 +71,9 @@ fn head_bytes(sequence: u32, hits: u32) -> [u8; layout::SLOT_VALUE]
 fn slot_bytes(x: Slot) -> [u8; layout::SLOT_SIZE]
     ensures { result ≡ encode_slot (as_slot x) }
 {
-    let value = x.value;
-    let mask = x.mask;
     let head = head_bytes(x.sequence, x.hits);
     let tail = tail_bytes(x.action, x.rule, x.settled, x.spare);
-    entry_bytes(head, value, mask, tail)
+    entry_bytes(head, x.pattern, tail)
 }
 
 // Writes the i-th slot of a buffer; every other byte stays.

@@ -9,14 +9,14 @@ ghost use Rattle.end_records.specs.MessageStructs.{as_write};
 use crate::entry::{entry_bytes, tail_bytes};
 use crate::head::head_bytes;
 use records::layout;
-use records::row::row_at;
+use records::row::pattern_at;
+use ternary::Pattern;
 
 #[derive(Clone, Copy)]
 pub struct Write {
     pub slot: u16,
     pub sequence: u32,
-    pub value: [u8; layout::KEY_SIZE],
-    pub mask: [u8; layout::KEY_SIZE],
+    pub pattern: Pattern,
     pub action: u16,
     pub rule: u16,
 }
@@ -26,13 +26,10 @@ pub fn write_of(t: &[u8]) -> Write
     requires { length t.now ≡ write_size key_size }
     ensures { as_write result ≡ decode_write key_size t.now }
 {
-    let value = row_at(t, layout::WRITE_VALUE);
-    let mask = row_at(t, layout::WRITE_MASK);
     Write {
         slot: buffers::be16(t, layout::WRITE_SLOT),
         sequence: buffers::be32(t, layout::WRITE_SEQUENCE),
-        value,
-        mask,
+        pattern: pattern_at(t, layout::WRITE_VALUE),
         action: buffers::be16(t, layout::WRITE_ACTION),
         rule: buffers::be16(t, layout::WRITE_RULE),
     }
@@ -42,11 +39,9 @@ pub fn write_of(t: &[u8]) -> Write
 pub fn write_bytes(x: Write) -> [u8; layout::WRITE_SIZE]
     ensures { result ≡ encode_write (as_write x) }
 {
-    let value = x.value;
-    let mask = x.mask;
     let head = head_bytes(layout::IS_WRITE, x.slot, x.sequence);
     let tail = tail_bytes(x.action, x.rule, 0, 0);
-    entry_bytes(head, value, mask, tail)
+    entry_bytes(head, x.pattern, tail)
 }
 
 // Writes a write at the start of `out`; the bytes past it stay.

@@ -57,7 +57,7 @@ unfoldable pub isolate_case : ℕ → ℕ → ℕ → ℕ → ℕ → ℕ → Ca
 isolate_case i key value mask fixed wildcards =
     record {
       computed = isolate_is (isolate_answer small_bytes (row key) i);
-      expected = isolate_is (Ok (record { value = row value; mask = row mask; fixed = fixed; wildcards = wildcards }));
+      expected = isolate_is (Ok (record { pattern = record { value = row value; mask = row mask }; fixed = fixed; wildcards = wildcards }));
     }
 
 unfoldable pub small_cases : List Case

@@ -26,7 +26,7 @@ isolate_refusal policy key number =
 
 -- the model's isolated rule, as the code tells it
 abbrev pub isolated_of : IsolatedRule → Isolated
-isolated_of x = record { value = x.value; mask = x.mask; fixed = x.fixed_bits; wildcards = x.wildcards_left }
+isolated_of x = record { pattern = record { value = x.value; mask = x.mask }; fixed = x.fixed_bits; wildcards = x.wildcards_left }
 
 -- the refusal, or the isolated rule
 unfoldable pub isolate_answer : List ℕ → List ℕ → ℕ → Result Isolated Refusal

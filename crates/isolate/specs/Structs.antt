@@ -7,7 +7,7 @@ use Rattle.ternary.specs.Sizes.{positions}
 use Rattle.isolate.specs.declared.rounds.Isolated.{Isolated as IsolatedStruct}
 
 abbrev pub as_isolated : IsolatedStruct → Isolated
-as_isolated x = record { value = x.value; mask = x.mask; fixed_bits = x.fixed; wildcards_left = x.wildcards }
+as_isolated x = record { value = x.pattern.value; mask = x.pattern.mask; fixed_bits = x.fixed; wildcards_left = x.wildcards }
 
 -- a pattern of which so many bits were fixed, with its wildcard bits
 abbrev pub with_counts : List ℕ → List ℕ → ℕ → Isolated

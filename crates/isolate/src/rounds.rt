@@ -11,16 +11,15 @@ ghost use Rattle.isolate.specs.Structs.{as_isolated, with_counts, PatternOf};
 use crate::separation::{column_of, left, marked};
 use cover::dependents::dependents_of;
 use lists::Numbers;
-use records::layout;
 use records::layout::KEY_SIZE;
 use records::row::row_at;
+use records::rule::rule_at;
 use ternary::Pattern;
 
 // A rule isolated for a key: the pattern, the number of fixed bits, and the wildcard bits left.
 #[derive(Clone, Copy)]
 pub struct Isolated {
-    pub value: [u8; KEY_SIZE],
-    pub mask: [u8; KEY_SIZE],
+    pub pattern: Pattern,
     pub fixed: usize,
     pub wildcards: usize,
 }
@@ -30,23 +29,17 @@ fn rule_pattern(policy: &[u8], number: usize) -> Pattern
     requires { number < rule_count key_size policy.now }
     ensures { PatternOf (rules key_size policy.now) number result.value result.mask }
 {
-    let at = layout::RULE_SIZE * number;
-    let value = row_at(policy, at + layout::RULE_VALUE);
-    let mask = row_at(policy, at + layout::RULE_MASK);
-    Pattern { value, mask }
+    rule_at(policy, number).pattern
 }
 
 // The pattern with the number of its bits that were fixed, and its wildcard bits counted.
 fn with_counts(pattern: Pattern, fixed: usize) -> Isolated
     ensures { as_isolated result ≡ with_counts pattern.value pattern.mask fixed }
 {
-    let value = pattern.value;
-    let mask = pattern.mask;
     Isolated {
-        value,
-        mask,
+        pattern,
         fixed,
-        wildcards: ternary::bits::wildcard_bits(mask),
+        wildcards: ternary::bits::wildcard_bits(pattern.mask),
     }
 }
 

@@ -27,8 +27,7 @@ module _ (keeper : List ℕ) {i : ℕ} {old : Slot} (l : i < slot_count key_size
         write = record {
           slot = i;
           sequence = old.sequence;
-          value = old.value;
-          mask = old.mask;
+          pattern = record { value = old.value; mask = old.mask };
           action = old.action;
           rule = old.rule;
         };

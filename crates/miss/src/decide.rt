@@ -24,15 +24,12 @@ fn new_entry(policy: &[u8], key: &[u8], keeper: &[u8], best: BestRule, sequence:
     let BestRule { number, action } = best;
     let isolated = isolate::rounds::isolate_best(policy, key, usize::from(number));
     let i = slot_for_entry(keeper);
-    let value = isolated.value;
-    let mask = isolated.mask;
     Decision {
         outcome: entry_outcome(keeper, i, action, number),
         write: Write {
             slot: i as u16,
             sequence,
-            value,
-            mask,
+            pattern: isolated.pattern,
             action,
             rule: number,
         },

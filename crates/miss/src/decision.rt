@@ -35,8 +35,10 @@ pub(crate) fn no_write(outcome: u8, action: u16, rule: u16) -> Decision
         write: Write {
             slot: 0,
             sequence: 0,
-            value: [0; layout::KEY_SIZE],
-            mask: [0; layout::KEY_SIZE],
+            pattern: ternary::Pattern {
+                value: [0; layout::KEY_SIZE],
+                mask: [0; layout::KEY_SIZE],
+            },
             action: 0,
             rule: 0,
         },
@@ -49,8 +51,6 @@ pub(crate) fn write_again(keeper: &[u8], i: usize) -> Decision
     ensures { (policy : List ℕ) → DecidedAs policy keeper.now (again i) result }
 {
     let slot = slot_at(keeper, i);
-    let value = slot.value;
-    let mask = slot.mask;
     Decision {
         outcome: Outcome {
             outcome: kinds::AGAIN,
@@ -62,8 +62,7 @@ pub(crate) fn write_again(keeper: &[u8], i: usize) -> Decision
         write: Write {
             slot: i as u16,
             sequence: slot.sequence,
-            value,
-            mask,
+            pattern: slot.pattern,
             action: slot.action,
             rule: slot.rule,
         },

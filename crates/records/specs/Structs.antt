@@ -3,4 +3,4 @@ use Rattle.model.specs.Policy.{Rule}
 use Rattle.records.specs.declared.rule.Rule.{Rule as RuleStruct}
 
 abbrev pub as_rule : RuleStruct → Rule
-as_rule x = record { value = x.value; mask = x.mask; priority = x.priority; action = x.action }
+as_rule x = record { value = x.pattern.value; mask = x.pattern.mask; priority = x.priority; action = x.action }

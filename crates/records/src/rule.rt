@@ -7,12 +7,12 @@ ghost use Rattle.records.specs.Rules.{decode_rule, rule_count, rule_in, rules};
 ghost use Rattle.records.specs.Structs.{as_rule};
 
 use crate::layout;
-use crate::row::row_at;
+use crate::row::pattern_at;
+use ternary::Pattern;
 
 #[derive(Clone, Copy, Debug, PartialEq, Eq)]
 pub struct Rule {
-    pub value: [u8; layout::KEY_SIZE],
-    pub mask: [u8; layout::KEY_SIZE],
+    pub pattern: Pattern,
     pub priority: u16,
     pub action: u16,
 }
@@ -23,11 +23,8 @@ fn rule_of(t: &[u8]) -> Rule
     requires { length t.now ≡ rule_size key_size }
     ensures { as_rule result ≡ decode_rule key_size t.now }
 {
-    let value = row_at(t, layout::RULE_VALUE);
-    let mask = row_at(t, layout::RULE_MASK);
     Rule {
-        value,
-        mask,
+        pattern: pattern_at(t, layout::RULE_VALUE),
         priority: buffers::be16(t, layout::RULE_PRIORITY),
         action: buffers::be16(t, layout::RULE_ACTION),
     }

@@ -17,8 +17,7 @@ fn written(w: Write) -> Slot
 {
     let Write {
         sequence,
-        value,
-        mask,
+        pattern,
         action,
         rule,
         ..
@@ -26,8 +25,7 @@ fn written(w: Write) -> Slot
     Slot {
         sequence,
         hits: 0,
-        value,
-        mask,
+        pattern,
         action,
         rule,
         settled: 0,

@@ -132,13 +132,12 @@ fn ask_cover(rt: &impl Print, policy: &[u8], number: usize, room: usize) -> io::
 
 fn ask_isolate(rt: &impl Print, policy: &[u8], key: &[u8], number: usize) -> Result<(), Stop> {
     let Isolated {
-        value,
-        mask,
+        pattern,
         fixed,
         wildcards,
     } = isolate::isolate(policy, key, number)?;
-    let value = Hex(&value);
-    let mask = Hex(&mask);
+    let value = Hex(&pattern.value);
+    let mask = Hex(&pattern.mask);
     print!(rt; " value {value} mask {mask} fixed {fixed} wildcards {wildcards}")?;
     Ok(())
 }
@@ -147,10 +146,7 @@ fn ask_isolate(rt: &impl Print, policy: &[u8], key: &[u8], number: usize) -> Res
 fn pattern(policy: &[u8], i: usize) -> Pattern
     requires { i < rule_count key_size policy.now }
 {
-    let rule = records::rule::rule_at(policy, i);
-    let value = rule.value;
-    let mask = rule.mask;
-    Pattern { value, mask }
+    records::rule::rule_at(policy, i).pattern
 }
 
 // Whether rules a and b of a policy overlap.
@@ -172,14 +168,13 @@ fn ask_match(rt: &impl Print, policy: &[u8], key: &[u8], number: usize) -> io::R
         return Ok(());
     }
     let its = pattern(policy, number);
-    let mask = its.mask;
     let word = if patterns::matches(its, records::row::row_at(key, 0)) {
         "matches"
     } else {
         "differs"
     };
-    let exact = bits::exact_bits(mask);
-    let wildcards = bits::wildcard_bits(mask);
+    let exact = bits::exact_bits(its.mask);
+    let wildcards = bits::wildcard_bits(its.mask);
     print!(rt; " {word} exact {exact} wildcards {wildcards}")
 }
 

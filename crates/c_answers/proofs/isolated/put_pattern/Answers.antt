@@ -9,5 +9,6 @@ use Rattle.c_answers.proofs.isolated.put_pattern.Goals as goal
 pub returns : goal.returns
 returns c =
     let a = c.args in
-    let e : c.put_bytes-2.new.s ≡ splice key_size a.mask (splice 0 a.value a.out.now) = cc in
-    e ∙ splice-next 0 key_size a.value a.mask a.out.now (search rules) (search rules)
+    let p = a.pattern in
+    let e : c.put_bytes-2.new.s ≡ splice key_size p.mask (splice 0 p.value a.out.now) = cc in
+    e ∙ splice-next 0 key_size p.value p.mask a.out.now (search rules) (search rules)

@@ -13,5 +13,5 @@ returns c =
     let a = c.args in
     let zeros : List ℕ = replicate (slot_size key_size) 0 in
     cc
-    (fill-four a.head a.value a.mask a.tail zeros slot_value (slot_mask key_size) (slot_action key_size)
+    (fill-four a.head a.pattern.value a.pattern.mask a.tail zeros slot_value (slot_mask key_size) (slot_action key_size)
     (search rules) (search rules) (search rules) (search rules))

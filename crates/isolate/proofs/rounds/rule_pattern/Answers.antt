@@ -1,12 +1,16 @@
--- `isolate::rounds::rule_pattern` meets its contract: the rows are read where they lie. Assumes nothing.
-use mathlib.Core.Path.{sym, ◌∙◌}
+-- `isolate::rounds::rule_pattern` meets its contract: the rule that is read is the policy's of that number. Assumes nothing.
+use mathlib.Core.Path.{◌≡◌, sym, ap, ◌∙◌}
+use Rattle.model.specs.Policy.{Rule, rule_at}
 use Rattle.ternary.specs.Sizes.{key_size}
-use Rattle.records.proofs.RuleLaws.{value-in-place, mask-in-place}
+use Rattle.records.specs.Rules.{rules}
+use Rattle.records.specs.Structs.{as_rule}
+use Rattle.records.proofs.RuleLaws.{rule-at}
 use Rattle.isolate.proofs.rounds.rule_pattern.Goals as goal
 
 pub returns : goal.returns
 returns c =
-    record {
-      value-is = c.row_at-value.ensures ∙ sym (value-in-place key_size c.args.policy.now c.args.number c.requires);
-      mask_is = c.row_at-mask.ensures ∙ sym (mask-in-place key_size c.args.policy.now c.args.number c.requires);
-    }
+    let policy = c.args.policy.now in
+    let is : as_rule c.rule_at.result ≡ rule_at (rules key_size policy) c.args.number =
+    c.rule_at.ensures ∙ sym (rule-at key_size policy c.args.number c.requires)
+    in
+    record { value-is = ap (λ (r : Rule). r.value) is; mask_is = ap (λ (r : Rule). r.mask) is }
