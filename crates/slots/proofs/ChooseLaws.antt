@@ -50,28 +50,6 @@ module _ (bs : List ℕ) where
       let none_left : largest (drop i k) ≡ 0 = rw (n, drop-length k) in
       omega (arith, is.left, none_left)
 
-  -- ---- the lowest empty slot
-
-  -- no slot below i is empty
-  pub record Full (i : ℕ) : Type 0 where
-    pub passed : Passed (λ j. is_empty (slot_at k j) ≡ false) i
-
-  pub full-none : Full 0
-  full-none = record { passed = passed_none }
-
-  module _ {i its : ℕ} (is : Full i) where
-    pub full-more : its ≡ (slot_at k i).sequence → its ≢ 0 → Full (i + 1)
-    full-more e n = record { passed = passed-more is.passed (rw (← e) (ne_eqb its 0 n)) }
-
-    pub empty-here : i < slot_count key_size bs → its ≡ (slot_at k i).sequence → its ≡ 0 → Some i ≡ first_empty k
-    empty-here l e z =
-        let t : is_empty (slot_at k i) ≡ true = rw (← e) (eq-eqb its 0 z) in
-        sym (first_found (λ j. is_empty (slot_at k j)) (length k) i is.passed (omega (arith, slot-count key_size bs)) t)
-
-  pub empty-nowhere : {i : ℕ} → Full i → slot_count key_size bs ≤ i → None ≡ first_empty k
-  empty-nowhere {i} is l =
-      sym (first-missed (λ j. is_empty (slot_at k j)) (length k) i is.passed (omega (arith, slot-count key_size bs)))
-
   -- ---- the slot that is given up
 
   abbrev order : ℕ → ℕ → Bool

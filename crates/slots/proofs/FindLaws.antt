@@ -1,13 +1,13 @@
 -- The search for the first slot that takes a key, and what its answer says. Assumes nothing.
 use mathlib.Core.Path.{◌≡◌, refl, sym, ap}
-use mathlib.Core.Bool.{true, false}
+use mathlib.Core.Bool.{Bool, true, false}
 use mathlib.Core.List.{List}
-use Rattle.std.specs.Prelude.{Option, None, Some}
+use Rattle.std.specs.Prelude.{Option, None, Some, MatchOption}
 use Prim.Native.Nat.{ℕ, ◌+◌, ◌*◌, ◌≤◌, ◌<◌}
 use native.Mathlib.Omega.{arith}
 use lib.ListN.{length}
 use Rattle.ends.specs.Ends.{Key, holds, first_for}
-use Rattle.model.proofs.BelowLaws.{Passed, passed_none, passed-more}
+use Rattle.model.specs.Below.{first_below}
 use Rattle.model.proofs.OrderLaws.{first_found, first-missed}
 use Rattle.ends.proofs.Slots.{found}
 use Rattle.ternary.specs.Sizes.{key_size, positions}
@@ -16,30 +16,27 @@ use Rattle.end_records.specs.Slots.{slots}
 use Rattle.records.specs.SlotBuffers.{slot_count, WholeSlots}
 use Rattle.end_records.proofs.SlotLaws.{slot-count}
 
--- ---- the loop over the slots of a buffer
+-- ---- the first of a buffer's slots
 
--- no slot below i takes the key
-pub record Unheld (w : ℕ) (bs : List ℕ) (key : Key) (i : ℕ) : Type 0 where
-  pub passed : Passed (λ k. holds (w * 8) (slots w bs) key k ≡ false) i
+-- what a search of the numbers below n may give: none of which f holds, or the first of which it does
+abbrev pub FirstOf : (ℕ → Bool) → ℕ → Option ℕ → Type 0
+FirstOf f n r =
+    MatchOption r ((k : ℕ) → 0 ≤ k → k < n → f k ≡ false)
+    (λ i. (0 ≤ i) × (i < n) × (f i ≡ true) × ((k : ℕ) → 0 ≤ k → k < i → f k ≡ false))
 
-pub unheld-none : {w : ℕ} {bs : List ℕ} {key : Key} → Unheld w bs key 0
-unheld-none = record { passed = passed_none }
+first-of : (f : ℕ → Bool) (n : ℕ) (r : Option ℕ) → FirstOf f n r → r ≡ first_below f n
+first-of f n None h = sym (first-missed f n n (record { at = λ k l. h k (omega arith) l }) (omega arith))
+first-of f n (Some i) h = sym (first_found f n i (record { at = λ k l. h.3 k (omega arith) l }) h.1 h.2)
 
-module _ {w : ℕ} {bs : List ℕ} {key : Key} {i : ℕ} (is : Unheld w bs key i) where
-  -- nor does the next
-  pub unheld-more : holds (w * 8) (slots w bs) key i ≡ false → Unheld w bs key (i + 1)
-  unheld-more t = record { passed = passed-more is.passed t }
+module _ (bs : List ℕ) {r : Option ℕ} where
+  -- so of a buffer's slots
+  pub first-slot : (f : ℕ → Bool) → FirstOf f (slot_count key_size bs) r → r ≡ first_below f (length (slots key_size bs))
+  first-slot f h = rw (slot-count key_size bs) (first-of f _ r h)
 
-  -- the search stops at a slot that takes the key, or has passed them all
-  pub held-here : i < slot_count w bs → holds (w * 8) (slots w bs) key i ≡ true → Some i ≡ first_for (w * 8) (slots w bs) key
+  pub first-for-key : (key : Key) → FirstOf (holds positions (slots key_size bs) key) (slot_count key_size bs) r
+      → r ≡ first_for positions (slots key_size bs) key
   unfolding first_for
-  held-here l t =
-      sym (first_found (holds (w * 8) (slots w bs) key) (length (slots w bs)) i is.passed (omega (arith, slot-count w bs)) t)
-
-  pub held-nowhere : slot_count w bs ≤ i → None ≡ first_for (w * 8) (slots w bs) key
-  unfolding first_for
-  held-nowhere l =
-      sym (first-missed (holds (w * 8) (slots w bs) key) (length (slots w bs)) i is.passed (omega (arith, slot-count w bs)))
+  first-for-key key h = first-slot (holds positions (slots key_size bs) key) h
 
 -- ---- for its callers
 

@@ -25,12 +25,7 @@ pub fn largest_sequence(keeper: &[u8]) -> u32
 fn first_empty(keeper: &[u8]) -> Option<usize>
     ensures { result ≡ first_empty (slots key_size keeper.now) }
 {
-    for i in 0..keeper.len() / layout::SLOT_SIZE {
-        if fields::sequence_at(keeper, i) == 0 {
-            return Some(i);
-        }
-    }
-    None
+    (0..keeper.len() / layout::SLOT_SIZE).find(|&i| fields::sequence_at(keeper, i) == 0)
 }
 
 // Whether slot a is given up before slot b: fewer hits, or as many and a smaller sequence.

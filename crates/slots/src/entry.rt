@@ -39,7 +39,7 @@ pub fn put_entry(end: &mut [u8], w: Write) -> Slot
     ensures { EntryPut end.old (as_write w) (as_slot result) end.new }
 {
     let new = written(w);
-    end_records::slot::put_slot(end, w.slot as usize, new);
+    end_records::slot::put_slot(end, usize::from(w.slot), new);
     new
 }
 
@@ -48,9 +48,9 @@ pub fn store_newer(table: &mut [u8], w: Write) -> Slot
     requires { (as_write w).slot < slot_count key_size table.old }
     ensures { Stored table.old (as_write w) (as_slot result) table.new }
 {
-    let old = end_records::slot::slot_at(table, w.slot as usize);
+    let old = end_records::slot::slot_at(table, usize::from(w.slot));
     if w.sequence <= old.sequence {
         return old;
     }
-    crate::entry::put_entry(table, w)
+    put_entry(table, w)
 }

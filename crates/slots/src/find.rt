@@ -30,10 +30,5 @@ pub fn first_slot_for(s: &[u8], key: &[u8]) -> Option<usize>
     requires { length key.now ≡ key_size }
     ensures { result ≡ first_for positions (slots key_size s.now) key.now }
 {
-    for i in 0..s.len() / layout::SLOT_SIZE {
-        if slot_holds(s, i, key) {
-            return Some(i);
-        }
-    }
-    None
+    (0..s.len() / layout::SLOT_SIZE).find(|&i| slot_holds(s, i, key))
 }

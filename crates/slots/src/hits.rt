@@ -13,11 +13,8 @@ use records::layout;
 fn counted(x: Slot) -> Slot
     ensures { as_slot result ≡ one_more (as_slot x) }
 {
-    if x.hits == layout::MOST_HITS {
-        return x;
-    }
     Slot {
-        hits: x.hits + 1,
+        hits: x.hits.saturating_add(1),
         ..x
     }
 }

@@ -6,9 +6,9 @@ use Rattle.slots.proofs.entry.store_newer.Goals as goal
 
 pub returns-then-w-old : goal.returns-then-w-old
 returns-then-w-old c =
-    stored-kept _ _ _ c.requires c.slot_at-old.ensures (omega (arith, c.if-w-old.true))
+    stored-kept _ _ _ c.requires (rw (← c.from.ensures) c.slot_at-old.ensures) (omega (arith, c.if-w-old.true))
 
 pub returns : goal.returns
 returns c =
-    stored-new _ _ (as_slot c.slot_at-old.result) _ _ c.requires c.slot_at-old.ensures
+    stored-new _ _ (as_slot c.slot_at-old.result) _ _ c.requires (rw (← c.from.ensures) c.slot_at-old.ensures)
     (omega (arith, c.if-w-old.false)) c.put_entry.ensures

@@ -1,19 +1,19 @@
--- `slots::find::first_holding` meets its contract: no slot below i takes the key. Assumes nothing.
+-- `slots::find::first_slot_for` meets its contract: the first slot that takes the key. Assumes nothing.
+use mathlib.Core.Path.{◌≡◌}
+use mathlib.Core.Bool.{true, false}
+use Prim.Native.Nat.{ℕ}
 use borrow.Author.Rules.{rules}
-use mathlib.Core.Path.{sym, ◌∙◌}
-use Rattle.slots.proofs.FindLaws.{unheld-none, unheld-more, held-here, held-nowhere}
+use borrow.Author.Tests.{tests}
+use Rattle.std.proofs.lemmas.Iterator.{first_from_Range}
+use Rattle.ternary.specs.Sizes.{key_size, positions}
+use Rattle.ends.specs.Ends.{holds}
+use Rattle.end_records.specs.Slots.{slots}
+use Rattle.slots.proofs.FindLaws.{first-for-key}
 use Rattle.slots.proofs.find.first_slot_for.Goals as goal
 
-pub loop-i-init : goal.loop-i-init
-loop-i-init c = search (rules, unheld-none)
-
-pub returns-then-slot_holds : goal.returns-then-slot_holds
-returns-then-slot_holds c =
-    held-here c.loop-i.invariant c.loop-i-test.true (sym c.slot_holds.ensures ∙ c.if-slot_holds.true)
-
-pub loop-i-preserved : goal.loop-i-preserved
-loop-i-preserved c =
-    unheld-more c.loop-i.invariant (sym c.slot_holds.ensures ∙ c.if-slot_holds.false)
-
 pub returns : goal.returns
-returns c = held-nowhere c.loop-i.invariant c.loop-i-test.false
+returns c =
+    let f = λ (i : ℕ). holds positions (slots key_size c.args.s.now) c.args.key.now i in
+    first-for-key c.args.s.now c.args.key.now
+    (first_from_Range _ c.find.new.self _ c.find.result (λ i. f i ≡ true) (λ i. f i ≡ false) c.find.ensures.ran
+    (λ x q h. search (rules, tests)) (λ x q h. search (rules, tests)))
