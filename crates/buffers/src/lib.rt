@@ -15,8 +15,8 @@ pub fn bytes_at<const N: usize>(s: &[u8], at: usize) -> [u8; N]
     bytes
 }
 
-// The number of two bytes at `at`. It and that of four bytes stay two functions: std has `from_be_bytes` on each type and in no trait, and a
-// trait for it would be longer than both bodies.
+// The number of two bytes at `at`. It and that of four bytes, and those that write them below, stay two functions: std has `from_be_bytes` and
+// `to_be_bytes` on each type and in no trait, and a trait for them would be longer than the bodies.
 pub fn be16(s: &[u8], at: usize) -> u16
     requires { at + 2 ≤ length s.now }
     ensures { result ≡ be (part 2 at s.now) }

@@ -1,4 +1,4 @@
-// The outcomes of a packet; all but the hit are of a miss.
+// The outcomes of a packet; all but the hit are of a miss. They are numbers and no enum: `outcome_of` gives back whatever byte a record has.
 ghost use Rattle.std.specs.Prelude.{◌≡◌};
 ghost use Rattle.records.specs.Outcomes.{gives_write};
 

@@ -107,7 +107,5 @@ pub const MOST_PACKETS: usize = 4096;
 
 pub const MOST_SLOTS: usize = 256;
 
-// The last sequence, and the hits at which a slot's count stays.
+// The last sequence.
 pub const LAST_SEQUENCE: u32 = 4294967295;
-
-pub const MOST_HITS: u32 = 4294967295;

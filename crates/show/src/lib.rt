@@ -25,10 +25,7 @@ pub fn show_answer(policy: &[u8], key: &[u8], table: &[u8]) -> Result<Option<Sou
     if let Some(i) = first_slot_for(table, key) {
         return Ok(Some(Source::Table(i as u16)));
     }
-    match best_rule(policy, key) {
-        Some(best) => Ok(Some(Source::Policy(best.number))),
-        None => Ok(None),
-    }
+    Ok(best_rule(policy, key).map(|best| Source::Policy(best.number)))
 }
 
 // The record that decides, as a part of the buffer that `show_answer` names; the empty part where it names none.
@@ -44,7 +41,6 @@ pub fn show<'a>(policy: &'a [u8], key: &[u8], table: &'a [u8]) -> &'a [u8]
             let at = layout::RULE_SIZE * usize::from(number);
             &policy[at..at + layout::RULE_SIZE]
         }
-        Ok(None) => &policy[0..0],
-        Err(_) => &policy[0..0],
+        Ok(None) | Err(_) => &policy[0..0],
     }
 }
