@@ -1,7 +1,7 @@
 -- What the answer says of the record that is shown, and what the tests come to. Assumes nothing.
-use mathlib.Core.Path.{◌≡◌, refl}
+use mathlib.Core.Path.{◌≡◌, refl, sym}
 use mathlib.Core.List.{List}
-use Rattle.std.specs.Prelude.{Option, None, Some, Ok}
+use Rattle.std.specs.Prelude.{Option, None, Some, Ok, MatchOption}
 use Prim.Native.Nat.{ℕ, ◌<◌}
 use native.Mathlib.Omega.{arith}
 use Rattle.model.specs.Policy.{best}
@@ -16,8 +16,11 @@ use Rattle.records.specs.SlotBuffers.{slot_count}
 use Rattle.end_records.proofs.SlotLaws.{slot-count}
 use Rattle.checks.specs.Refusals.{answer_of}
 use Rattle.policy.specs.Lent.{lent_refusal}
-use Rattle.policy.proofs.BestLaws.{best-below}
+use Rattle.policy.proofs.BestLaws.{best-below, found_none, found-rule}
+use Rattle.policy.specs.Best.{best_found}
+use Rattle.policy.specs.declared.search.BestRule.{BestRule}
 use Rattle.show.specs.Answers.{shown_in, source_of, show_answer}
+use Rattle.show.specs.declared.Source.{Source}
 use Rattle.show.specs.declared.Source.TheVariants.{Table, Policy}
 
 -- ---- from the answer to the record
@@ -71,6 +74,12 @@ module _ (policy key table : List ℕ) where
       pub says_none : best positions (rules key_size policy) key ≡ None → Ok None ≡ show_answer policy key table
       unfolding show_answer shown
       says_none e = rw (fine, missed, e)
+
+      -- what the policy gives, told as a source
+      pub says-found : (found : Option BestRule) (r : Option Source) → found ≡ best_found policy key
+          → MatchOption found (r ≡ None) (λ x. r ≡ Some (Policy x.number)) → Ok r ≡ show_answer policy key table
+      says-found None r e h = rw h (says_none (found_none policy key (sym e)))
+      says-found (Some b) r e h = rw h (says-rule b.number (found-rule policy key b (sym e)))
 
 module _ (policy key table : List ℕ) where
   decides : ShownFor positions (rules key_size policy) (slots key_size table) key

@@ -41,6 +41,7 @@ pub fn show<'a>(policy: &'a [u8], key: &[u8], table: &'a [u8]) -> &'a [u8]
             let at = layout::RULE_SIZE * usize::from(number);
             &policy[at..at + layout::RULE_SIZE]
         }
-        Ok(None) | Err(_) => &policy[0..0],
+        Ok(None) => &policy[0..0],
+        Err(_) => &policy[0..0],
     }
 }

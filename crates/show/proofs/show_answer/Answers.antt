@@ -1,4 +1,5 @@
 -- `show::show_answer` meets its contract: at each `return` the tests that led there say which record it is. Assumes nothing.
+use borrow.Author.Rules.{rules}
 use mathlib.Core.Path.{refl, sym}
 use native.Mathlib.Omega.{arith}
 use Rattle.std.proofs.lemmas.Result.{err_from_is_err_and}
@@ -6,9 +7,8 @@ use Rattle.checks.proofs.RefusalLaws.{verdict-refused, verdict-fine}
 use Rattle.slots.proofs.FindLaws.{held-few}
 use Rattle.policy.proofs.CheckLaws.{passed-few}
 use Rattle.policy.proofs.LentLaws.{parts-fine}
-use Rattle.policy.proofs.BestLaws.{found_none, found-rule}
 use Rattle.show.specs.Answers.{show_answer}
-use Rattle.show.proofs.AnswerLaws.{says_slot, says-rule, says_none}
+use Rattle.show.proofs.AnswerLaws.{says_slot, says-found}
 use Rattle.show.proofs.show_answer.Goals as goal
 
 pub returns-in_err-check_lent : goal.returns-in_err-check_lent
@@ -33,12 +33,6 @@ best_rule-requires c =
     let parts = parts-fine _ _ _ (verdict-fine _ c.in_ok-check_lent.ensures refl) in
     (passed-few _ parts.accepted, parts.long)
 
-pub returns-in-None : goal.returns-in-None
-returns-in-None c =
-    says_none _ _ _ (verdict-fine _ c.in_ok-check_lent.ensures refl) (sym c.in_default.ensures)
-    (found_none _ _ (sym c.in-None.ensures))
-
-pub returns-in-Some-best_rule : goal.returns-in-Some-best_rule
-returns-in-Some-best_rule c =
-    says-rule _ _ _ (verdict-fine _ c.in_ok-check_lent.ensures refl) (sym c.in_default.ensures) _
-    (found-rule _ _ _ (sym c.in-Some-best_rule.ensures))
+pub returns : goal.returns
+returns c =
+    says-found _ _ _ (verdict-fine _ c.in_ok-check_lent.ensures refl) (sym c.in_default.ensures) _ _ c.best_rule.ensures (search rules)
