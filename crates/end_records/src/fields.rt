@@ -1,4 +1,4 @@
-// Fields of a slot, read where they lie.
+// Fields of a slot, read where they lie. One function for both would take a place in the slot, and say no plainer which number it gives.
 ghost use Rattle.std.specs.Prelude.{◌≡◌, ◌<◌};
 ghost use Rattle.ends.specs.Records.{slot_at};
 ghost use Rattle.ternary.specs.Sizes.{key_size};

@@ -20,6 +20,7 @@ pub struct Slot {
     pub pattern: Pattern,
     pub action: u16,
     pub rule: u16,
+    // 1 once settled. No bool: `decode_slot` gives back 2 to 255 too, which mean open.
     pub settled: u8,
     pub spare: u8,
 }
@@ -49,7 +50,7 @@ pub fn slot_at(s: &[u8], i: usize) -> Slot
     slot_of(&s[at..at + layout::SLOT_SIZE])
 }
 
-// The eight bytes of two numbers.
+// The eight bytes of two numbers, one by one: `concat` of their arrays needs a heap.
 fn head_bytes(sequence: u32, hits: u32) -> [u8; layout::SLOT_VALUE]
     ensures { result ≡ to_be 4 sequence ++ to_be 4 hits }
 {

@@ -44,7 +44,7 @@ pub fn totals_line(totals: Totals) -> Line
     line
 }
 
-// The one line of a refusal: `refused`, number, place.
+// The one line of a refusal: `refused`, number, place. `Display` writes the same, but no contract of it says so, and `text_of_replay` needs it.
 #[tactic(auto, using(std::proofs::Common::append_assoc), unfolding(crate::specs::Printed::refusal_line))]
 pub fn refusal_line(refusal: Refusal) -> Line
     ensures { result ≡ refusal_line (number_of refusal) (place_of refusal) }

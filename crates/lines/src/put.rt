@@ -21,6 +21,7 @@ pub fn put_line(line: Line, out: &mut [u8], at: usize) -> usize
 }
 
 // Writes the lines of the first n records of a run's output to the start of `out`, and gives where they end; every other byte stays.
+// A count beside the records, since a run's output may be longer than its packets: `put_outcomes` promises the first n.
 pub fn put_outcomes(records: &[u8], n: usize, out: &mut [u8]) -> usize
     requires { (n ≤ most_packets) × (outcome_size * n ≤ length records.now) × (line_size * n ≤ length out.old) }
     ensures lines { TextPut (lines_in n records.now) out.old result out.new }

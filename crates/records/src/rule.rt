@@ -53,7 +53,7 @@ pub fn rule_matches(policy: &[u8], i: usize, key: &[u8]) -> bool
     )
 }
 
-// The priority of the i-th rule, read where it lies.
+// The priority of the i-th rule, read where it lies. It and the action are two functions: what they share is one call.
 pub fn rule_priority(policy: &[u8], i: usize) -> u16
     requires { i < rule_count key_size policy.now }
     ensures { result ≡ (rule_at (rules key_size policy.now) i).priority }

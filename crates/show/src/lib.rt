@@ -23,12 +23,14 @@ pub fn show_answer(policy: &[u8], key: &[u8], table: &[u8]) -> Result<Option<Sou
 {
     policy::lent::check_lent(policy, key, table)?;
     if let Some(i) = first_slot_for(table, key) {
+        // A cast: no u16::from takes a usize.
         return Ok(Some(Source::Table(i as u16)));
     }
     Ok(best_rule(policy, key).map(|best| Source::Policy(best.number)))
 }
 
-// The record that decides, as a part of the buffer that `show_answer` names; the empty part where it names none.
+// The record that decides, as a part of the buffer that `show_answer` names; the empty part where it names none,
+// and no `Option`: `shown_part` promises it.
 pub fn show<'a>(policy: &'a [u8], key: &[u8], table: &'a [u8]) -> &'a [u8]
     ensures { result.now ≡ shown_part policy.now key.now table.now }
 {

@@ -1,4 +1,4 @@
-// The pattern of a key, by value: its match, and its overlap with another.
+// The pattern of a key, two arrays by value as docs/SENTENCES.md names the form: its match, and its overlap with another.
 ghost use Rattle.std.specs.Prelude.{◌≡◌};
 ghost use Rattle.model.specs.Pattern.{matches as matches_at, overlap as overlap_at};
 ghost use Rattle.ternary.specs.Sizes.{positions};
