@@ -19,12 +19,14 @@ use Rattle.records.specs.SlotBuffers.{slot_count, WholeSlots}
 use Rattle.end_records.proofs.SlotLaws.{slot-count}
 use Rattle.slots.proofs.FindLaws.{held_below}
 use Rattle.end_records.specs.MessageStructs.{as_write}
+use Rattle.end_records.specs.declared.write.Write.{Write as WriteStruct}
 use Rattle.records.specs.Outcomes.{as_outcome}
 use Rattle.policy.specs.Best.{best_found}
 use Rattle.policy.specs.declared.search.BestRule.{BestRule}
 use Rattle.policy.proofs.BestLaws.{found_none, found-rule, found-action, best-below}
 use Rattle.miss.specs.Decision.{policy_view, DecidedAs, NoWrite, entry_outcome}
 use Rattle.miss.specs.declared.decision.Decision.{Decision}
+use Rattle.miss.proofs.GivenLaws.{none-inside, some-inside}
 use Rattle.miss.specs.Decide.{FineMiss, RuleFor, miss_with, entry_miss, rule_miss, miss_in}
 
 -- ---- the rule
@@ -36,10 +38,6 @@ module _ (policy key keeper : List ℕ) where
   pub slot-inside : {i : ℕ} → WholeSlots keeper → i ≡ slot_for_entry ks → i < slot_count key_size keeper
   slot-inside whole e = omega (arith, slot-for-entry-lt ks (omega (arith, whole.some-there, slot-count key_size keeper)), slot-count key_size keeper)
 
-  -- a decision without a write names slot 0
-  blank-slot : {outcome action rule : ℕ} {d : Decision} → NoWrite outcome action rule d → d.write.slot ≡ 0
-  blank-slot is = ap (λ (w : Write). w.slot) is.write
-
   pub used-up : {number action last : ℕ} {d : Decision} → RuleFor policy key number action
       → WholeSlots keeper → last ≡ largest ks → last ≡ last_sequence
       → NoWrite 4 action number d → DecidedAs policy keeper (miss_with policy key keeper (Some number) None) d
@@ -47,8 +45,8 @@ module _ (policy key keeper : List ℕ) where
       rw (eq-eqb (largest ks) last_sequence (sym e ∙ t))
       (record {
         outcome = is.told ∙ ap (λ (a : ℕ). record { outcome = 4; action = a; rule = number; slot = nothing; evicted = nothing }) rule.acts;
-        write = is.write;
-        inside = omega (arith, blank-slot is, whole.some-there);
+        write = rw is.write;
+        inside = none-inside is.write;
       })
 
   pub not-used-up : {number last : ℕ} {d : Decision} → last ≡ largest ks → last ≢ last_sequence
@@ -77,7 +75,7 @@ module _ (policy key keeper : List ℕ) where
   unfolding on_miss
   no-rule fine e t is =
       rw (found_none policy key (sym e ∙ t))
-      (record { outcome = is.told; write = is.write; inside = omega (arith, blank-slot is, fine.whole.some-there) })
+      (record { outcome = is.told; write = rw is.write; inside = none-inside is.write })
 
   pub rule-for : {b : Option BestRule} {x : BestRule} → FineMiss policy key keeper → b ≡ best_found policy key → b ≡ Some x
       → RuleFor policy key x.number x.action
@@ -95,19 +93,19 @@ module _ (policy key keeper : List ℕ) where
 
   -- ---- an entry is placed
 
-  pub entry-decided : {number number' action sequence i : ℕ} {x : Isolated} {d : Decision} → RuleFor policy key number action → WholeSlots keeper
+  pub entry-decided : {number number' action sequence i : ℕ} {x : Isolated} {d : Decision} {g : WriteStruct} → RuleFor policy key number action → WholeSlots keeper
       → sequence ≡ suc (largest ks) → number' ≡ number → x ≡ isolate positions pol key number' → i ≡ slot_for_entry ks
       → as_outcome d.outcome ≡ entry_outcome ks i action number
-      → as_write d.write ≡ record { slot = i; sequence = sequence; value = x.value; mask = x.mask; action = action; rule = number }
+      → d.write ≡ Some g → as_write g ≡ record { slot = i; sequence = sequence; value = x.value; mask = x.mask; action = action; rule = number }
       → DecidedAs policy keeper (entry_miss policy key keeper number) d
-  entry-decided {number} {number'} {action} {sequence} {i} {x} {d} rule whole s n e r o w =
+  entry-decided {number} {number'} {action} {sequence} {i} {x} {d} {g} rule whole s n e r o t w =
       let pattern : x ≡ isolate positions pol key number = e ∙ ap (isolate positions pol key) n in
       let told : as_outcome d.outcome ≡ entry_outcome ks (slot_for_entry ks) (rule_at pol number).action number = rw (← r, ← rule.acts) o in
-      let given : as_write d.write ≡ write_for (slot_for_entry ks) (next_entry (policy_view policy) ks key number) =
+      let gives : as_write g ≡ write_for (slot_for_entry ks) (next_entry (policy_view policy) ks key number) =
       w ∙ rw (r, s, pattern, rule.acts)
       in
       record {
         outcome = told;
-        write = given;
-        inside = omega (arith, ap (λ (v : Write). v.slot) w, slot-inside whole r);
+        write = rw (t, gives);
+        inside = some-inside t (omega (arith, ap (λ (v : Write). v.slot) w, slot-inside whole r));
       }

@@ -1,7 +1,8 @@
 -- What a decision about slot i comes to. Assumes nothing.
-use mathlib.Core.Path.{◌≡◌, sym, ◌∙◌}
+use mathlib.Core.Path.{◌≡◌, refl, sym, ◌∙◌}
 use mathlib.Core.List.{List}
 use mathlib.Core.Logic.{◌≢◌}
+use Rattle.std.specs.Prelude.{Some}
 use Prim.Native.Nat.{ℕ, ◌<◌}
 use borrow.Author.Tests.{eq-eqb, ne_eqb}
 use Rattle.ends.specs.Records.{Slot, slot_at}
@@ -12,6 +13,7 @@ use Rattle.end_records.specs.Slots.{slot_in, slots}
 use Rattle.records.specs.SlotBuffers.{slot_count}
 use Rattle.end_records.proofs.SlotLaws.{slot-at}
 use Rattle.miss.specs.Decision.{DecidedAs, entry_outcome}
+use Rattle.miss.proofs.GivenLaws.{some-inside}
 
 module _ (keeper : List ℕ) {i : ℕ} {old : Slot} (l : i < slot_count key_size keeper) (is : old ≡ slot_in key_size keeper i) where
   abbrev k : List Slot
@@ -24,16 +26,16 @@ module _ (keeper : List ℕ) {i : ℕ} {old : Slot} (l : i < slot_count key_size
   pub again-decided : (policy : List ℕ) → DecidedAs policy keeper (again i)
       (record {
         outcome = record { outcome = 5; action = old.action; rule = old.rule; slot = i; evicted = nothing };
-        write = record {
+        write = Some (record {
           slot = i;
           sequence = old.sequence;
           value = old.value;
           mask = old.mask;
           action = old.action;
           rule = old.rule;
-        };
+        });
       })
-  again-decided policy = record { outcome = rw there; write = rw there; inside = l }
+  again-decided policy = record { outcome = rw there; write = rw there; inside = some-inside refl l }
 
   -- an entry written to it
   pub placed-empty : {action rule : ℕ} → old.sequence ≡ 0

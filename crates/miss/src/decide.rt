@@ -28,14 +28,14 @@ fn new_entry(policy: &[u8], key: &[u8], keeper: &[u8], best: BestRule, sequence:
     let mask = isolated.mask;
     Decision {
         outcome: entry_outcome(keeper, i, action, number),
-        write: Write {
+        write: Some(Write {
             slot: i as u16,
             sequence,
             value,
             mask,
             action,
             rule: number,
-        },
+        }),
     }
 }
 

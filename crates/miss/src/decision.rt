@@ -10,14 +10,14 @@ ghost use Rattle.miss.specs.Decision.{DecidedAs, NoWrite, entry_outcome};
 
 use end_records::slot::slot_at;
 use end_records::write::Write;
+use records::kinds;
 use records::outcome::Outcome;
-use records::{kinds, layout};
 
-// The outcome of a miss, and the write that is given in outcomes 2, 3 and 5; in the others it is all 0.
+// The outcome of a miss, and the write, where one is given: in outcomes 2, 3 and 5.
 #[derive(Clone, Copy)]
 pub struct Decision {
     pub outcome: Outcome,
-    pub write: Write,
+    pub write: Option<Write>,
 }
 
 // The decision that gives no write.
@@ -32,14 +32,7 @@ pub(crate) fn no_write(outcome: u8, action: u16, rule: u16) -> Decision
             slot: kinds::NOTHING,
             evicted: kinds::NOTHING,
         },
-        write: Write {
-            slot: 0,
-            sequence: 0,
-            value: [0; layout::KEY_SIZE],
-            mask: [0; layout::KEY_SIZE],
-            action: 0,
-            rule: 0,
-        },
+        write: None,
     }
 }
 
@@ -59,14 +52,14 @@ pub(crate) fn write_again(keeper: &[u8], i: usize) -> Decision
             slot: i as u16,
             evicted: kinds::NOTHING,
         },
-        write: Write {
+        write: Some(Write {
             slot: i as u16,
             sequence: slot.sequence,
             value,
             mask,
             action: slot.action,
             rule: slot.rule,
-        },
+        }),
     }
 }
 

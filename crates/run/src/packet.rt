@@ -15,7 +15,7 @@ fn missed(policy: &[u8], key: &[u8], table: &mut [u8], keeper: &mut [u8]) -> Out
 {
     let d = miss::decide::decide_miss(policy, key, keeper);
     let Decision { outcome, write } = d;
-    if records::kinds::gives_write(outcome.outcome) {
+    if let Some(write) = write {
         miss::carry::put_new_entry(keeper, outcome.outcome, write);
         crate::send::send_write(write, table, keeper);
     }
