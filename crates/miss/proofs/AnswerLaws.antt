@@ -60,10 +60,11 @@ module _ (policy keeper out : List ℕ) {d : Decision} {r : Result OutcomeStruct
           out-after = rw is.write at c.out-after;
         }
 
-  pub missed-as : (m : Miss) → DecidedAs policy keeper m d → MissedAs policy keeper m (short_for_write (miss_write k m) (length out)) out r keeper' out'
+  pub missed-as : (m : Miss) → DecidedAs policy keeper m d
+      → MissedAs policy keeper m (short_for_write (miss_write k m) (length out)) out r keeper' out'
   missed-as no_rule is = missed-by no_rule is refl refl
   missed-as (again i) is =
-      let h = again-given (policy_view policy) k d.outcome is.outcome in
+      let h = again-given (policy_view policy) k d.outcome i is.outcome in
       missed-by (again i) is (rw h.1) (rw h.1)
   missed-as (new_entry i x) is =
       let h = entry-given (policy_view policy) k d.outcome i x is.outcome in

@@ -9,14 +9,10 @@ use Rattle.checks.specs.Refusals.{need, unless_refused, answer_of}
 use Rattle.checks.specs.declared.refusal.Refusal.{Refusal}
 use Rattle.end_records.specs.Slots.{slots, put_slot}
 use Rattle.end_records.specs.Writes.{encode_write}
-use Rattle.records.specs.Outcomes.{as_outcome, gives_new_entry}
+use Rattle.records.specs.Outcomes.{as_struct, gives_new_entry}
 use Rattle.records.specs.declared.outcome.Outcome.{Outcome as OutcomeStruct}
 use Rattle.miss.specs.Decision.{given}
 use Rattle.miss.specs.declared.decision.Decision.{Decision}
-
--- the model's outcome as the code's struct
-abbrev pub as_struct : Outcome → OutcomeStruct
-as_struct x = record { outcome = x.outcome; action = x.action; rule = x.rule; slot = x.slot; evicted = x.evicted }
 
 -- the refusal, or the outcome
 abbrev pub miss_answer_of : Option Refusal → Outcome → Result OutcomeStruct Refusal
@@ -47,7 +43,7 @@ pub record NewEntryPut (outcome : ℕ) (w : Write) (keeper keeper' : List ℕ) :
   pub meaning : slots key_size keeper' ≡ slots_with outcome (Some w) (slots key_size keeper)
 
 pub record CarriedOut (d : Decision) (keeper out : List ℕ) (r : Result OutcomeStruct Refusal) (keeper' out' : List ℕ) : Type 0 where
-  pub answer : r ≡ miss_answer_of (short_for_write (given d) (length out)) (as_outcome d.outcome)
+  pub answer : r ≡ answer_of (short_for_write (given d) (length out)) d.outcome
   pub keeper-after : keeper' ≡ unless_refused (short_for_write (given d) (length out)) keeper (bytes_with d.outcome.outcome (given d) keeper)
   pub meaning : slots key_size keeper'
       ≡ unless_refused (short_for_write (given d) (length out)) (slots key_size keeper)

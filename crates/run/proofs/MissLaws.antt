@@ -12,7 +12,6 @@ use Rattle.ternary.specs.Sizes.{key_size}
 use Rattle.end_records.specs.Slots.{slots}
 use Rattle.end_records.specs.MessageStructs.{as_write}
 use Rattle.end_records.specs.declared.write.Write.{Write as WriteStruct}
-use Rattle.records.specs.Outcomes.{as_outcome}
 use Rattle.miss.specs.Decision.{policy_view, DecidedAs}
 use Rattle.miss.specs.declared.decision.Decision.{Decision}
 use Rattle.miss.specs.Decide.{miss_in}
@@ -35,7 +34,7 @@ module _ (policy keeper : List ℕ) (d : Decision) where
   entered : {keeper' : List ℕ} {w : Write} (m : Miss) → DecidedAs policy keeper m d → miss_write k m ≡ Some w → NewEntryPut n w keeper keeper'
       → slots key_size keeper' ≡ miss_keeper k m
   entered no_rule is e put = none-some e
-  entered (again i) is e put = rw (again-given p k d.outcome is.outcome).1 at put.meaning
+  entered (again i) is e put = rw (again-given p k d.outcome i is.outcome).1 at put.meaning
   entered (new_entry i x) is e put =
       rw (entry-given p k d.outcome i x is.outcome).1 at put.meaning
       ∙ ap (λ (w : Write). set k w.slot (written (entry_in w))) (sym (same_Some (write_for i x) _ e))
@@ -44,7 +43,7 @@ module _ (policy keeper : List ℕ) (d : Decision) where
   module _ (key table : List ℕ) (is : DecidedAs policy keeper (miss_in policy key keeper) d) where
     abbrev Is : List ℕ → List ℕ → Type 0
     Is table' keeper' =
-        PacketDone (missed_outcome policy key keeper) (missed_ends policy key table keeper) (as_outcome d.outcome) table' keeper'
+        PacketDone (missed_outcome policy key keeper) (missed_ends policy key table keeper) d.outcome table' keeper'
 
     pub missed-sent : {w : WriteStruct} {keeper₁ table' keeper' : List ℕ} → d.write ≡ Some w → NewEntryPut n (as_write w) keeper keeper₁
         → ends_in table' keeper' ≡ sent_ends table keeper₁ (as_write w) → Is table' keeper'
