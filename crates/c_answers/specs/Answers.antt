@@ -4,6 +4,7 @@ use Rattle.ends.specs.Trace.{nothing}
 use Rattle.policy.specs.declared.search.BestRule.{BestRule}
 use Rattle.table.specs.declared.Hit.{Hit}
 use Rattle.checks.specs.Refusals.{number_of, place_of}
+use Rattle.records.specs.Outcomes.{or_nothing}
 use Rattle.records.specs.declared.outcome.Outcome.{Outcome as OutcomeStruct}
 use Rattle.c_answers.specs.declared.structs.WgDone.{WgDone}
 use Rattle.c_answers.specs.declared.structs.WgCount.{WgCount}
@@ -44,7 +45,7 @@ miss_for_c (Ok x) =
       place = 0;
       outcome = x.outcome;
       action = x.action;
-      rule = x.rule;
-      slot = x.slot;
-      evicted = x.evicted;
+      rule = or_nothing x.rule;
+      slot = or_nothing x.slot;
+      evicted = or_nothing x.evicted;
     }

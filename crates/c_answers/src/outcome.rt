@@ -1,7 +1,7 @@
 // The miss's answer as numbers.
 use crate::structs::WgOutcome;
 use checks::refusal::Refusal;
-use records::outcome::Outcome;
+use records::outcome::{Outcome, number_or_nothing};
 
 impl From<Result<Outcome, Refusal>> for WgOutcome {
     ghost use Rattle.std.specs.Prelude.{◌≡◌};
@@ -25,9 +25,9 @@ impl From<Result<Outcome, Refusal>> for WgOutcome {
                 place: 0,
                 outcome: u32::from(x.outcome),
                 action: x.action,
-                rule: x.rule,
-                slot: x.slot,
-                evicted: x.evicted,
+                rule: number_or_nothing(x.rule),
+                slot: number_or_nothing(x.slot),
+                evicted: number_or_nothing(x.evicted),
             },
         }
     }

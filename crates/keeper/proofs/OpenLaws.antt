@@ -56,6 +56,11 @@ list-few keeper = omega (arith, listed-few (open_at keeper) ltb (length (slots k
 pub few-slots : (keeper : List ℕ) {b : Bool} → b ≡ slots_fit keeper → b ≡ true → slot_count key_size keeper ≤ most_slots
 few-slots keeper e t = (fit-whole keeper (sym e ∙ t)).few-there
 
+-- there are no more of them than slots
+pub list-few : (keeper : List ℕ) → length (open_in keeper) ≤ slot_count key_size keeper
+unfolding open_list
+list-few keeper = omega (arith, listed-few (open_at keeper) ltb (length (slots key_size keeper)), slot-count key_size keeper)
+
 module _ (keeper out : List ℕ) {b : Bool} (e : b ≡ slots_fit keeper) where
   pub refused-slots : b ≡ false → Opened keeper out (Err BadSlots) out
   unfolding open_refusal slots_refusal

@@ -15,7 +15,7 @@ use text::Line;
 use totals::Totals;
 
 // An outcome's line: outcome, action, rule, slot, evicted rule.
-#[tactic(auto, using(std::proofs::Common::append_assoc), unfolding(crate::specs::Printed::outcome_line))]
+#[tactic(auto, using(std::proofs::Common::append_assoc, records::proofs::OutcomeLaws::told_number), unfolding(crate::specs::Printed::outcome_line))]
 pub(crate) fn outcome_line(bytes: &[u8]) -> Line
     requires { length bytes.now ≡ outcome_size }
     ensures { result ≡ outcome_line (decode_outcome bytes.now) }

@@ -1,3 +1,5 @@
+-- Laws of the write that a decision gives.
+pub mod GivenLaws
 -- Laws of the decisions about one slot.
 pub mod DecisionLaws
 -- Laws of the decision on a miss.

@@ -1,28 +1,19 @@
 -- What the keeper answers to a miss, and what it leaves in its buffer and in the output. Assumes nothing.
-use Rattle.std.specs.Prelude.{◌≡◌, not, List, ℕ, ltb, length, Option, None, Some, Result}
-use Rattle.ends.specs.Records.{Write, written}
+use Rattle.std.specs.Prelude.{◌≡◌, List, ℕ, length, Option, Result}
+use Rattle.ends.specs.Records.{written}
 use Rattle.ends.specs.Ends.{Miss, no_rule, again, new_entry, used_up, miss_keeper, miss_write}
 use Rattle.ends.specs.Trace.{miss_outcome}
-use Rattle.checks.specs.declared.refusal.Refusal.TheVariants.{ShortOutput}
 use Rattle.ternary.specs.Sizes.{key_size}
-use Rattle.buffers.specs.Parts.{splice}
-use Rattle.records.specs.Layout.{write_size}
-use Rattle.checks.specs.Refusals.{or_else, need, unless_refused}
+use Rattle.checks.specs.Refusals.{or_else, unless_refused}
 use Rattle.checks.specs.declared.refusal.Refusal.{Refusal}
 use Rattle.end_records.specs.Slots.{slots, put_slot}
-use Rattle.end_records.specs.Writes.{encode_write}
 use Rattle.policy.specs.Lent.{lent_refusal}
 use Rattle.miss.specs.Decision.{policy_view}
 use Rattle.miss.specs.Decide.{miss_in}
-use Rattle.miss.specs.Carry.{miss_answer_of}
+use Rattle.miss.specs.Carry.{miss_answer_of, short_for_write, out_with}
 use Rattle.records.specs.declared.outcome.Outcome.{Outcome as OutcomeStruct}
 
 -- ---- refusals
-
--- 5, where a write is given and the output has out_len bytes
-abbrev pub short_for_write : Option Write → ℕ → Option Refusal
-short_for_write None out_len = None
-short_for_write (Some w) out_len = need (not (ltb out_len (write_size key_size))) ShortOutput None
 
 -- policy 1, 2, 3; key 1; keeper 4; 5
 unfoldable pub miss_refused : List ℕ → List ℕ → List ℕ → ℕ → Option Refusal
@@ -37,11 +28,6 @@ miss_bytes keeper no_rule = keeper
 miss_bytes keeper (again i) = keeper
 miss_bytes keeper (new_entry i e) = put_slot key_size keeper i (written e)
 miss_bytes keeper (used_up r) = keeper
-
--- the output with the write at its start
-abbrev pub out_with : Option Write → List ℕ → List ℕ
-out_with None out = out
-out_with (Some w) out = splice 0 (encode_write w) out
 
 -- of what the miss comes to and the refusal: the answer; the keeper after it, byte by byte; its slots; and the output
 pub record MissedAs (policy keeper : List ℕ) (m : Miss) (refused : Option Refusal) (out : List ℕ) (r : Result OutcomeStruct Refusal)

@@ -1,5 +1,6 @@
 // A decision on a miss is carried out: its entry placed, its write given.
 ghost use Rattle.std.specs.Prelude.{◌≡◌, true, ◌<◌};
+ghost use Rattle.std.specs.Option.{ForSome};
 ghost use Rattle.ternary.specs.Sizes.{key_size};
 ghost use Rattle.records.specs.SlotBuffers.{slot_count};
 ghost use Rattle.end_records.specs.MessageStructs.{as_write};
@@ -24,13 +25,14 @@ pub fn put_new_entry(keeper: &mut [u8], outcome: u8, x: Write)
 
 // Carries a decision out: refusal 5 where a write is given; a new entry goes into its slot, and the write into `out`.
 pub(crate) fn carry_out(d: Decision, keeper: &mut [u8], out: &mut [u8]) -> Result<Outcome, Refusal>
-    requires { d.write.slot < slot_count key_size keeper.old }
+    requires inside { ForSome d.write (λ w. w.slot < slot_count key_size keeper.old) }
+    requires told { ForSome d.write (λ w. gives_write d.outcome.outcome ≡ true) }
     ensures { CarriedOut d keeper.old out.old result keeper.new out.new }
 {
     let Decision { outcome, write } = d;
-    if !records::kinds::gives_write(outcome.outcome) {
+    let Some(write) = write else {
         return Ok(outcome);
-    }
+    };
     if out.len() < layout::WRITE_SIZE {
         return Err(Refusal::ShortOutput);
     }

@@ -26,13 +26,13 @@ fn new_entry(policy: &[u8], key: &[u8], keeper: &[u8], best: BestRule, sequence:
     let i = slot_for_entry(keeper);
     Decision {
         outcome: entry_outcome(keeper, i, action, number),
-        write: Write {
+        write: Some(Write {
             slot: i as u16,
             sequence,
             pattern: isolated.pattern,
             action,
             rule: number,
-        },
+        }),
     }
 }
 
@@ -44,7 +44,7 @@ fn fresh_entry(policy: &[u8], key: &[u8], keeper: &[u8], best: BestRule) -> Deci
 {
     let last = largest_sequence(keeper);
     if last == layout::LAST_SEQUENCE {
-        return no_write(kinds::USED_UP, best.action, best.number);
+        return no_write(kinds::USED_UP, best.action, Some(best.number));
     }
     new_entry(policy, key, keeper, best, last + 1)
 }
@@ -69,6 +69,6 @@ pub fn decide_miss(policy: &[u8], key: &[u8], keeper: &[u8]) -> Decision
 {
     match best_rule(policy, key) {
         Some(best) => with_rule(policy, key, keeper, best),
-        None => no_write(kinds::NO_RULE, 0, kinds::NOTHING),
+        None => no_write(kinds::NO_RULE, 0, None),
     }
 }

@@ -5,23 +5,22 @@ ghost use Rattle.ternary.specs.Sizes.{key_size};
 ghost use Rattle.records.specs.Layout.{most_slots};
 ghost use Rattle.end_records.specs.Slots.{slots};
 ghost use Rattle.records.specs.SlotBuffers.{slot_count};
-ghost use Rattle.records.specs.Outcomes.{as_outcome};
 ghost use Rattle.miss.specs.Decision.{DecidedAs, NoWrite, entry_outcome};
 
 use end_records::slot::slot_at;
 use end_records::write::Write;
-use records::outcome::Outcome;
-use records::{kinds, layout};
+use records::kinds;
+use records::outcome::{Outcome, unless_nothing};
 
-// The outcome of a miss, and the write that is given in outcomes 2, 3 and 5; in the others it is all 0.
+// The outcome of a miss, and the write, where one is given: in outcomes 2, 3 and 5.
 #[derive(Clone, Copy)]
 pub struct Decision {
     pub outcome: Outcome,
-    pub write: Write,
+    pub write: Option<Write>,
 }
 
 // The decision that gives no write.
-pub(crate) fn no_write(outcome: u8, action: u16, rule: u16) -> Decision
+pub(crate) fn no_write(outcome: u8, action: u16, rule: Option<u16>) -> Decision
     ensures { NoWrite outcome action rule result }
 {
     Decision {
@@ -29,19 +28,10 @@ pub(crate) fn no_write(outcome: u8, action: u16, rule: u16) -> Decision
             outcome,
             action,
             rule,
-            slot: kinds::NOTHING,
-            evicted: kinds::NOTHING,
+            slot: None,
+            evicted: None,
         },
-        write: Write {
-            slot: 0,
-            sequence: 0,
-            pattern: ternary::Pattern {
-                value: [0; layout::KEY_SIZE],
-                mask: [0; layout::KEY_SIZE],
-            },
-            action: 0,
-            rule: 0,
-        },
+        write: None,
     }
 }
 
@@ -55,40 +45,40 @@ pub(crate) fn write_again(keeper: &[u8], i: usize) -> Decision
         outcome: Outcome {
             outcome: kinds::AGAIN,
             action: slot.action,
-            rule: slot.rule,
-            slot: i as u16,
-            evicted: kinds::NOTHING,
+            rule: unless_nothing(slot.rule),
+            slot: Some(i as u16),
+            evicted: None,
         },
-        write: Write {
+        write: Some(Write {
             slot: i as u16,
             sequence: slot.sequence,
             pattern: slot.pattern,
             action: slot.action,
             rule: slot.rule,
-        },
+        }),
     }
 }
 
 // The outcome of a rule that is written to slot i: over its entry, whose rule is evicted, unless it is empty.
 pub(crate) fn entry_outcome(keeper: &[u8], i: usize, action: u16, rule: u16) -> Outcome
     requires { (i < slot_count key_size keeper.now) × (slot_count key_size keeper.now ≤ most_slots) }
-    ensures { as_outcome result ≡ entry_outcome (slots key_size keeper.now) i action rule }
+    ensures { result ≡ entry_outcome (slots key_size keeper.now) i action rule }
 {
     let old = slot_at(keeper, i);
     if old.sequence == 0 {
         return Outcome {
             outcome: kinds::TO_EMPTY,
             action,
-            rule,
-            slot: i as u16,
-            evicted: kinds::NOTHING,
+            rule: Some(rule),
+            slot: Some(i as u16),
+            evicted: None,
         };
     }
     Outcome {
         outcome: kinds::OVER_ENTRY,
         action,
-        rule,
-        slot: i as u16,
-        evicted: old.rule,
+        rule: Some(rule),
+        slot: Some(i as u16),
+        evicted: unless_nothing(old.rule),
     }
 }

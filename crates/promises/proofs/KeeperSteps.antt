@@ -31,13 +31,13 @@ use Rattle.policy.specs.Refusals.{AcceptedBytes}
 use Rattle.slots.specs.Settle.{report_bytes}
 use Rattle.keeper.specs.Reports.{report_refused, report_answer, Reported}
 use Rattle.keeper.proofs.ReportLaws.{not-refused, accepted-of, report-meaning}
-use Rattle.records.specs.Outcomes.{gives_write}
+use Rattle.records.specs.Outcomes.{as_struct, gives_write}
 use Rattle.miss.specs.Decision.{policy_view}
 use Rattle.miss.specs.Decide.{miss_in}
-use Rattle.miss.specs.Carry.{as_struct}
+use Rattle.miss.specs.Carry.{short_for_write, out_with}
 use Rattle.records.specs.declared.outcome.Outcome.{Outcome as OutcomeStruct}
 use Rattle.policy.specs.Lent.{lent_refusal}
-use Rattle.miss.specs.Answers.{short_for_write, miss_refused, miss_bytes, out_with, Missed}
+use Rattle.miss.specs.Answers.{miss_refused, miss_bytes, Missed}
 use Rattle.promises.specs.Calls.{State, miss_gave, after, miss as miss_call, report as report_call}
 use Rattle.promises.proofs.MessageBytes.{WriteBytes, ReportBytes}
 use Rattle.promises.proofs.MissBytes.{MissFits, miss-fits, write-there}

@@ -82,8 +82,7 @@ module _ (policy : List ℕ) (fine : policy_refusal policy ≡ None) {count : �
   unfolding open_refusal
   opens out_len l =
       let xs : List ℕ = open_in s.keeper in
-      let short : length xs ≤ slot_count key_size s.keeper = list-few s.keeper in
-      rw ((slots-accepted s.keeper).1 (keeper-whole f), le-ltb out_len (2 * length xs) (omega (arith, f.keeper-long)))
+      rw ((slots-accepted s.keeper).1 (keeper-whole f), le-ltb out_len (2 * length xs) (omega (arith, list-few s.keeper, f.keeper-long)))
 
   -- an entry by its bytes, and in the list of slots
   keeper-entry : (i : ℕ) → i < count → entry_at k i ≡ entry_of_bytes s.keeper i

@@ -1,6 +1,7 @@
 -- Outcomes: what a run tells of each packet. Assumes nothing.
-use Rattle.std.specs.Prelude.{ℕ, ◌^◌, ◌<◌, Bool, ◌||◌, List, [], ◌∷◌, ◌++◌, eqb, get_or}
+use Rattle.std.specs.Prelude.{ℕ, ◌^◌, ◌<◌, Bool, ◌||◌, cond, List, [], ◌∷◌, ◌++◌, eqb, get_or, Option, None, Some}
 use Rattle.ends.specs.Records.{Outcome}
+use Rattle.ends.specs.Trace.{nothing}
 use Rattle.buffers.specs.BigEndian.{be, to_be}
 use Rattle.buffers.specs.Parts.{part}
 use Rattle.records.specs.declared.outcome.Outcome.{Outcome as OutcomeStruct}
@@ -33,9 +34,30 @@ pub record OutcomeFits (x : Outcome) : Type 0 where
   pub slot-fits : x.slot < 2 ^ 16
   pub evicted-fits : x.evicted < 2 ^ 16
 
+-- no rule and no slot are 65,535
+abbrev pub or_nothing : Option ℕ → ℕ
+or_nothing None = nothing
+or_nothing (Some n) = n
+
+-- and 65,535 is none
+unfoldable pub unless_nothing : ℕ → Option ℕ
+unless_nothing n = cond (eqb n nothing) None (Some n)
+
 -- the code's struct as the model's record
 abbrev pub as_outcome : OutcomeStruct → Outcome
-as_outcome x = record { outcome = x.outcome; action = x.action; rule = x.rule; slot = x.slot; evicted = x.evicted }
+as_outcome x =
+    record { outcome = x.outcome; action = x.action; rule = or_nothing x.rule; slot = or_nothing x.slot; evicted = or_nothing x.evicted }
+
+-- the model's outcome as the code's struct
+abbrev pub as_struct : Outcome → OutcomeStruct
+as_struct x =
+    record {
+      outcome = x.outcome;
+      action = x.action;
+      rule = unless_nothing x.rule;
+      slot = unless_nothing x.slot;
+      evicted = unless_nothing x.evicted;
+    }
 
 -- in outcomes 2, 3 and 5 a write is given
 unfoldable pub gives_write : ℕ → Bool

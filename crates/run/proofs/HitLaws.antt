@@ -1,5 +1,5 @@
 -- The table looks the packet's key up: a hit, whose report goes to the keeper, or a miss. Assumes nothing.
-use mathlib.Core.Path.{◌≡◌, refl, sym, ap, ◌∙◌}
+use mathlib.Core.Path.{◌≡◌, refl, sym, ◌∙◌}
 use mathlib.Core.List.{List}
 use Rattle.std.specs.Prelude.{Option, None, Some, Result, ⊤, Ok, option_map}
 use Prim.Native.Nat.{ℕ, ◌<◌}
@@ -7,9 +7,9 @@ use native.Mathlib.Omega.{arith}
 use lib.ListN.{length}
 use lib.Seq.{get_or-set_same}
 use Rattle.model.specs.Bits.{Bytes}
-use Rattle.ends.specs.Records.{Slot, Outcome, report_for, slot_at, cleared}
+use Rattle.ends.specs.Records.{Slot, report_for, slot_at, cleared}
 use Rattle.ends.specs.Ends.{counted, first_for, hit_at, counted_at, lookup, after_lookup}
-use Rattle.ends.specs.Trace.{nothing, one_packet, one_outcome}
+use Rattle.ends.specs.Trace.{one_packet, one_outcome}
 use Rattle.ends.proofs.Slots.{found}
 use Rattle.ternary.specs.Sizes.{key_size, positions}
 use Rattle.buffers.proofs.PartLaws.{splice_all}
@@ -18,6 +18,9 @@ use Rattle.end_records.specs.Slots.{slots}
 use Rattle.records.specs.SlotBuffers.{slot_count}
 use Rattle.end_records.proofs.SlotLaws.{slot-count}
 use Rattle.records.proofs.SlotBufferLaws.{as-whole}
+use Rattle.records.specs.Outcomes.{unless_nothing}
+use Rattle.records.proofs.OutcomeLaws.{some-number, nothing-none}
+use Rattle.records.specs.declared.outcome.Outcome.{Outcome as OutcomeStruct}
 use Rattle.end_records.specs.Reports.{encode_report, ReportFits}
 use Rattle.table.specs.Lookups.{lookup_refusal, hit_told, LookedUp}
 use Rattle.table.specs.declared.Hit.{Hit}
@@ -52,12 +55,13 @@ module _ {policy key table keeper out table' out' : List ℕ} {r : Result (Optio
   found_in {hit} (Some i) e =
       let s : hit ≡ record { slot = i; rule = (slot_at t i).rule; action = (slot_at t i).action } = cc in rw s (refl, refl, refl)
 
-  pub packet-hit : {hit : Hit} {keeper' : List ℕ} {a : Result ⊤ Refusal} → r ≡ Ok (Some hit) → length table' ≡ length table
+  pub packet-hit : {hit : Hit} {rule : Option ℕ} {keeper' : List ℕ} {a : Result ⊤ Refusal} → rule ≡ unless_nothing hit.rule
+      → r ≡ Ok (Some hit) → length table' ≡ length table
       → Bytes table' → Reported keeper out' a keeper'
       → PacketDone (packet_outcome policy key table keeper) (packet_ends policy key table keeper)
-      (record { outcome = 1; action = hit.action; rule = hit.rule; slot = hit.slot; evicted = nothing }) table' keeper'
+      (record { outcome = 1; action = hit.action; rule = rule; slot = Some hit.slot; evicted = None }) table' keeper'
   unfolding lookup after_lookup one_packet one_outcome
-  packet-hit {hit} {keeper' = keeper'} e l h reported =
+  packet-hit {hit} {keeper' = keeper'} u e l h reported =
       let slot : ℕ = hit.slot in
       let did = looked-up is open-to in
       let at = found_in (first_for positions t key) (sym e ∙ did.0) in
@@ -71,7 +75,7 @@ module _ {policy key table keeper out table' out' : List ℕ} {r : Result (Optio
       (rw at.0 at did.2) ∙ splice_all (encode_report (report_for slot x)) out (unfold encode_report in sym room)
       in
       record {
-        outcome = rw (at.0, ← at.1, ← at.2);
+        outcome = rw (at.0, ← at.1, ← at.2, some-number slot (omega (arith, l, below, fine.table-whole.few-there)), nothing-none, u);
         ends = rw at.0 (same_ends (reported-to keeper (report_for slot x) fine.fine.whole fits told reported) after);
       }
 
@@ -90,7 +94,7 @@ module _ {policy key table keeper out table' out' : List ℕ} {r : Result (Optio
     unfolding after_lookup
     same-slots = rw missed_here at (looked-up is open-to).1
 
-    pub packet-missed : {x : Outcome} {table₂ keeper₂ : List ℕ}
+    pub packet-missed : {x : OutcomeStruct} {table₂ keeper₂ : List ℕ}
         → PacketDone (missed_outcome policy key keeper) (missed_ends policy key table' keeper) x table₂ keeper₂
         → PacketDone (packet_outcome policy key table keeper) (packet_ends policy key table keeper) x table₂ keeper₂
     unfolding one_packet one_outcome

@@ -19,8 +19,9 @@ use Rattle.records.specs.Layout.{outcome_size, trace_size, most_packets}
 use Rattle.records.specs.Traces.{packet_count, key_in, keys, decode_trace}
 use Rattle.records.proofs.TraceLaws.{packet-count, key-at}
 use Rattle.records.proofs.SlotBufferLaws.{as-whole}
-use Rattle.records.specs.Outcomes.{encode_outcome}
-use Rattle.records.proofs.OutcomeLaws.{length-outcome}
+use Rattle.records.specs.Outcomes.{encode_outcome, as_outcome}
+use Rattle.records.proofs.OutcomeLaws.{length-outcome, as-outcome-struct}
+use Rattle.records.specs.declared.outcome.Outcome.{Outcome as OutcomeStruct}
 use Rattle.totals.specs.Sums.{most_total, AtMost}
 use Rattle.totals.proofs.SumLaws.{after-most}
 use Rattle.miss.specs.Decision.{policy_view}
@@ -46,11 +47,13 @@ module _ {policy bs table keeper out key : List ℕ} {i : ℕ}
         table-whole = fits.table-whole;
       }
 
-  pub stepped : {x : Outcome} {t t' : Totals} {table' keeper' out' : List ℕ}
+  pub stepped : {x : OutcomeStruct} {t t' : Totals} {table' keeper' out' : List ℕ}
       → PacketDone (packet_outcome policy key table keeper) (packet_ends policy key table keeper) x table' keeper'
-      → out' ≡ splice (outcome_size * i) (encode_outcome x) out → t' ≡ totals_after t (x ∷ [])
+      → out' ≡ splice (outcome_size * i) (encode_outcome (as_outcome x)) out → t' ≡ totals_after t (as_outcome x ∷ [])
       → Stepped policy (key_in key_size bs i) i table keeper out t table' keeper' out' t'
-  stepped did told sums = rw (← e) (record { ends = did.ends; out-after = rw (← did.outcome) told; sums = rw (← did.outcome) sums })
+  stepped {x} did told sums =
+      let same : as_outcome x ≡ packet_outcome policy key table keeper = ap as_outcome did.outcome ∙ as-outcome-struct _ in
+      rw (← e) (record { ends = did.ends; out-after = rw (← same) told; sums = rw (← same) sums })
 
 -- ---- all steps
 

@@ -6,6 +6,8 @@ use Rattle.ends.specs.Trace.{Ends, sent_to, one_packet, miss_outcome, one_outcom
 use Rattle.ternary.specs.Sizes.{key_size, positions}
 use Rattle.end_records.specs.Slots.{slots}
 use Rattle.records.specs.SlotBuffers.{WholeSlots}
+use Rattle.records.specs.Outcomes.{as_struct}
+use Rattle.records.specs.declared.outcome.Outcome.{Outcome as OutcomeStruct}
 use Rattle.miss.specs.Decision.{policy_view}
 use Rattle.miss.specs.Decide.{FineMiss, miss_in}
 use Rattle.run.specs.Send.{ends_in}
@@ -16,8 +18,8 @@ pub record FinePacket (policy key table keeper : List ℕ) : Type 0 where
   pub table-whole : WholeSlots table
 
 -- what became of a packet: its outcome, and what the two ends then hold
-pub record PacketDone (o : Outcome) (e : Ends) (x : Outcome) (table' keeper' : List ℕ) : Type 0 where
-  pub outcome : x ≡ o
+pub record PacketDone (o : Outcome) (e : Ends) (x : OutcomeStruct) (table' keeper' : List ℕ) : Type 0 where
+  pub outcome : x ≡ as_struct o
   pub ends : ends_in table' keeper' ≡ e
 
 -- a miss goes to the keeper, and its write to the table

@@ -5,7 +5,7 @@
 
 use checks::refusal::Refusal;
 use records::layout::{MOST_SLOTS, REPORT_SIZE, WRITE_SIZE};
-use records::outcome::Outcome;
+use records::outcome::{Outcome, number_or_nothing};
 use show::Source;
 use std::{fs, io};
 use table::Hit;
@@ -82,6 +82,9 @@ fn say_miss(rt: &impl Print, answer: Result<Outcome, Refusal>) -> Result<usize, 
         slot,
         evicted,
     } = answer?;
+    let rule = number_or_nothing(rule);
+    let slot = number_or_nothing(slot);
+    let evicted = number_or_nothing(evicted);
     print!(rt; " outcome {outcome} action {action} rule {rule} slot {slot} evicted {evicted}")?;
     if records::kinds::gives_write(outcome) {
         Ok(WRITE_SIZE)

@@ -1,5 +1,5 @@
 -- How many slots slots.txt gives. Assumes nothing.
-use Rattle.std.specs.Prelude.{Bool, ◌&&◌, List, [], ◌∷◌, ℕ, suc, leb, Option, None, Some}
+use Rattle.std.specs.Prelude.{Bool, ◌&&◌, List, [], ◌∷◌, ℕ, suc, leb, Option}
 use Rattle.std.specs.Str.{bytes_eq}
 use Rattle.model.specs.Below.{first_below}
 use Rattle.records.specs.Layout.{most_slots}

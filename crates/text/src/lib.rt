@@ -4,6 +4,7 @@
 pub mod slots_text;
 
 ghost use Rattle.std.specs.Prelude.{◌≡◌, ℕ, List, [], ◌∷◌, ◌++◌, ◌+◌, ◌≤◌, length};
+ghost use Rattle.records.specs.Outcomes.{or_nothing};
 ghost use Rattle.text.specs.Decimal.{decimal};
 ghost use Rattle.text.specs.Line.{word_size, line_size};
 ghost use Rattle.text.specs.Words.{or_dash};
@@ -62,16 +63,17 @@ impl Line {
 
     // The same of a rule or a slot; a dash where there is none.
     #[tactic(auto, using(std::proofs::Common::append_assoc), unfolding(crate::specs::Words::or_dash))]
-    pub fn push_number_or_dash(&mut self, n: u16, after: u8)
+    pub fn push_number_or_dash(&mut self, n: Option<u16>, after: u8)
         requires { length self.old + word_size ≤ line_size }
-        ensures text { self.new ≡ self.old ++ (or_dash n ++ after ∷ []) }
+        ensures text { self.new ≡ self.old ++ (or_dash (or_nothing n) ++ after ∷ []) }
         ensures room { length self.new ≤ length self.old + word_size }
     {
-        if n == kinds::NOTHING {
-            self.bytes.push(b'-');
-            self.bytes.push(after);
-        } else {
-            self.push_number(u64::from(n), after);
+        match n {
+            Some(n) if n != kinds::NOTHING => self.push_number(u64::from(n), after),
+            _ => {
+                self.bytes.push(b'-');
+                self.bytes.push(after);
+            }
         }
     }
 

@@ -14,9 +14,9 @@ use Rattle.keeper.specs.Reports.{report_refused, report_answer}
 use Rattle.keeper.specs.Opens.{open_in, open_refusal}
 use Rattle.miss.specs.Decision.{policy_view}
 use Rattle.miss.specs.Decide.{miss_in}
-use Rattle.miss.specs.Carry.{miss_answer_of}
+use Rattle.miss.specs.Carry.{miss_answer_of, out_with}
 use Rattle.records.specs.declared.outcome.Outcome.{Outcome as OutcomeStruct}
-use Rattle.miss.specs.Answers.{miss_refused, miss_bytes, out_with}
+use Rattle.miss.specs.Answers.{miss_refused, miss_bytes}
 use Rattle.c_answers.specs.Answers.{miss_for_c, done_for_c, count_for_c}
 use Rattle.c_answers.specs.declared.structs.WgCount.{WgCount}
 use Rattle.c_answers.specs.declared.structs.WgDone.{WgDone}

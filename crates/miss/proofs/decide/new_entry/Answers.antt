@@ -19,4 +19,4 @@ overflow_cast-result c =
 pub returns : goal.returns
 returns c =
     entry-decided _ _ _ c.requires.0 c.requires.1 c.requires.2 c.from.ensures c.isolate_best-isolated.ensures c.slot_for_entry-i.ensures
-    c.entry_outcome.ensures refl
+    c.entry_outcome.ensures refl refl

@@ -7,4 +7,4 @@ pub returns-then-old-eq0 : goal.returns-then-old-eq0
 returns-then-old-eq0 c = placed-empty _ (search rules) c.slot_at-old.ensures c.if-old-eq0.true
 
 pub returns : goal.returns
-returns c = placed-over _ (search rules) c.slot_at-old.ensures c.if-old-eq0.false
+returns c = placed-over _ (search rules) c.slot_at-old.ensures c.if-old-eq0.false c.unless_nothing.ensures

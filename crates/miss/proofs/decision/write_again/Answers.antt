@@ -4,4 +4,4 @@ use Rattle.miss.proofs.DecisionLaws.{again-decided}
 use Rattle.miss.proofs.decision.write_again.Goals as goal
 
 pub returns : goal.returns
-returns c = again-decided _ (search rules) c.slot_at-slot.ensures
+returns c = again-decided _ (search rules) c.slot_at-slot.ensures c.requires.1 c.unless_nothing.ensures

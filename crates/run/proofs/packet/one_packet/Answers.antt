@@ -25,7 +25,7 @@ no-hit (Err q) e h t = cc
 
 pub returns-in-Some : goal.returns-in-Some
 returns-in-Some c =
-    packet-hit c.requires (search rules) c.lookup.ensures (hit _ _ (rw c.ok.ensures.value at c.in-Some.ensures))
+    packet-hit c.requires (search rules) c.lookup.ensures c.unless_nothing.ensures (hit _ _ (rw c.ok.ensures.value at c.in-Some.ensures))
     (search rules) (bytes_of _ c.type_inv.table) c.report.ensures
 
 pub returns : goal.returns
