@@ -1,8 +1,6 @@
 -- An answer that isolates a rule keeps what the model promises of isolating. Assumes nothing.
-use mathlib.Core.Path.{◌≡◌, refl}
-use Rattle.std.specs.Prelude.{Option, None, Some, Ok}
-use Prim.Native.Nat.{ℕ}
-use native.Mathlib.Omega.{arith}
+use mathlib.Core.Path.{refl}
+use Rattle.std.specs.Prelude.{Ok}
 use Rattle.model.specs.Isolate.{isolate}
 use Rattle.model.proofs.Isolation.{rounds-isolate}
 use Rattle.ternary.specs.Sizes.{key_size, positions}

@@ -9,7 +9,7 @@ use lib.Dec.{eqb}
 use lib.ListN.{get_or}
 use lib.Seq.{get_or-drop, get_or-take}
 use Rattle.model.specs.Below.{all_below}
-use Rattle.model.specs.Bits.{digit, bit_of, Bytes}
+use Rattle.model.specs.Bits.{digit, bit_of}
 use Rattle.model.specs.Policy.{Rule, rule_at}
 use Rattle.model.specs.Pattern.{exact_at, same_at}
 use Rattle.model.specs.Isolate.{separates}
@@ -51,7 +51,7 @@ module _ (w : ℕ) (bs : List ℕ) (b : ℕ) (lb : b < w) where
   value-byte : (i : ℕ) → i < rule_count w bs → get_or (rule_at (rules w bs) i).value b 0 ≡ get_or bs (rule_size w * i + rule_value + b) 0
   value-byte i l = rw (value-in-place w bs i l) (byte-there w (rule_size w * i + rule_value) b bs lb)
 
-  pub separating-bits : (i d : ℕ) → i < rule_count w bs → d < rule_count w bs → (key : ℕ) → Bytes bs
+  pub separating-bits : (i d : ℕ) → i < rule_count w bs → d < rule_count w bs → (key : ℕ) → get_or bs (rule_size w * i + rule_mask w + b) 0 < 256
       → Separating (rules w bs) key i b d
       (separating 255 (get_or bs (rule_size w * i + rule_mask w + b) 0) (get_or bs (rule_size w * d + rule_mask w + b) 0)
       (get_or bs (rule_size w * d + rule_value + b) 0) key)
@@ -62,7 +62,7 @@ module _ (w : ℕ) (bs : List ℕ) (b : ℕ) (lb : b < w) where
         let m = get_or bs (rule_size w * d + rule_mask w + b) 0 in
         let v = get_or bs (rule_size w * d + rule_value + b) 0 in
         rw (mask-byte i li, mask-byte d ld, value-byte d ld)
-        (ap (λ (x : ℕ). eqb x 1) (bit-separating o m v key q (h.byte (rule_size w * i + rule_mask w + b)) l)
+        (ap (λ (x : ℕ). eqb x 1) (bit-separating o m v key q h l)
         ∙ on-each _ _ _ _ (digit_lt o (7 - q)) (digit_lt m (7 - q)) (digit_lt v (7 - q)) (digit_lt key (7 - q)));
   }
 

@@ -1,5 +1,5 @@
 -- What the call that isolates answers. Assumes nothing.
-use Rattle.std.specs.Prelude.{Bool, false, List, ℕ, ltb, eqb, Option, None, Some, Ok, Err, Result}
+use Rattle.std.specs.Prelude.{Bool, false, List, ℕ, ltb, eqb, Option, None, Some, Result}
 use Rattle.model.specs.Policy.{best}
 use Rattle.model.specs.Isolate.{Isolated as IsolatedRule, isolate}
 use Rattle.checks.specs.declared.refusal.Refusal.TheVariants.{NoSuchRule, NotBest}

@@ -8,7 +8,7 @@ ghost use Rattle.isolate.specs.Leads.{separated, Leads};
 ghost use Rattle.isolate.specs.Ready.{Ready};
 ghost use Rattle.isolate.specs.Structs.{as_isolated, with_counts, PatternOf};
 
-use crate::separation::{column_of, left, marked};
+use crate::separation::{Asked, marked};
 use cover::dependents::dependents_of;
 use lists::Numbers;
 use records::layout::KEY_SIZE;
@@ -22,14 +22,6 @@ pub struct Isolated {
     pub pattern: Pattern,
     pub fixed: usize,
     pub wildcards: usize,
-}
-
-// The pattern of the rule of that number.
-fn rule_pattern(policy: &[u8], number: usize) -> Pattern
-    requires { number < rule_count key_size policy.now }
-    ensures { PatternOf (rules key_size policy.now) number result.value result.mask }
-{
-    rule_at(policy, number).pattern
 }
 
 // The pattern with the number of its bits that were fixed, and its wildcard bits counted.
@@ -50,66 +42,68 @@ struct Leader {
     count: usize,
 }
 
-// The leader once the eight positions of byte b are seen too.
-fn leader_after(
-    policy: &[u8],
-    key: [u8; KEY_SIZE],
-    number: usize,
-    standing: &Numbers,
-    b: usize,
-    before: Leader,
-) -> Leader
-    requires { (number < rule_count key_size policy.now) × (b < key_size) ×
-        All (λ d. d < rule_count key_size policy.now) standing.now.items ×
-        Leads (separated (rules key_size policy.now) key number standing.now.items) (b * 8) before.position before.count }
-    ensures { Leads (separated (rules key_size policy.now) key number standing.now.items) (b * 8 + 8)
-        result.position result.count }
-{
-    let column = column_of(policy, key, number, b, standing);
-    let mut leader = before;
-    for q in 0..8 {
-        let count = marked(&column, q);
-        if leader.count < count {
-            leader = Leader {
-                position: b * 8 + q,
-                count,
-            };
-        }
+impl<'a> Asked<'a> {
+    // The rule's pattern.
+    fn rule_pattern(&self) -> Pattern
+        ensures { PatternOf (rules key_size self.now.policy.now) self.now.number result.value result.mask }
+    {
+        rule_at(self.policy, self.number).pattern
     }
-    leader
-}
 
-// The rule isolated for the key, whose best it is. Its dependents all stand at first.
-// Rounds left by label around a scan whose position comes out by break: the form that docs/SENTENCES.md names for this place.
-fn isolate_rule(policy: &[u8], key: [u8; KEY_SIZE], number: usize, dependents: Numbers) -> Isolated
-    requires { (number < rule_count key_size policy.now) × (best positions (rules key_size policy.now) key ≡ Some number) ×
-        (dependents.items ≡ dependents_at positions (rules key_size policy.now) number) }
-    ensures { as_isolated result ≡ isolate positions (rules key_size policy.now) key number }
-{
-    let mut pattern = rule_pattern(policy, number);
-    let mut standing = dependents;
-    let mut fixed: usize = 0;
-    'rounds: loop {
-        if standing.is_empty() {
-            break 'rounds;
-        }
-        let mut leader = Leader {
-            position: 0,
-            count: 0,
-        };
-        let mut b = 0;
-        let p = 'scan: loop {
-            if b == KEY_SIZE {
-                break 'scan leader.position;
+    // The leader once the eight positions of byte b are seen too.
+    fn leader_after(&self, standing: &Numbers, b: usize, before: Leader) -> Leader
+        requires { (b < key_size) × All (λ d. d < rule_count key_size self.now.policy.now) standing.now.items ×
+            Leads (separated (rules key_size self.now.policy.now) self.now.key self.now.number standing.now.items) (b * 8)
+            before.position before.count }
+        ensures { Leads (separated (rules key_size self.now.policy.now) self.now.key self.now.number standing.now.items) (b * 8 + 8)
+            result.position result.count }
+    {
+        let column = self.column_of(b, standing);
+        let mut leader = before;
+        for q in 0..8 {
+            let count = marked(&column, q);
+            if leader.count < count {
+                leader = Leader {
+                    position: b * 8 + q,
+                    count,
+                };
             }
-            leader = leader_after(policy, key, number, &standing, b, leader);
-            b += 1;
-        };
-        pattern = ternary::bits::fix_bit(pattern, key, p);
-        standing = left(policy, key, number, p, &standing);
-        fixed += 1;
+        }
+        leader
     }
-    with_counts(pattern, fixed)
+
+    // The rule isolated for the key, whose best it is. Its dependents all stand at first.
+    // Rounds left by label around a scan whose position comes out by break: the form that docs/SENTENCES.md names for this place.
+    fn isolate_rule(&self, dependents: Numbers) -> Isolated
+        requires { (best positions (rules key_size self.now.policy.now) self.now.key ≡ Some self.now.number) ×
+            (dependents.items ≡ dependents_at positions (rules key_size self.now.policy.now) self.now.number) }
+        ensures { as_isolated result ≡ isolate positions (rules key_size self.now.policy.now) self.now.key self.now.number }
+    {
+        let mut pattern = self.rule_pattern();
+        let mut standing = dependents;
+        let mut fixed: usize = 0;
+        'rounds: loop {
+            if standing.is_empty() {
+                break 'rounds;
+            }
+            let mut leader = Leader {
+                position: 0,
+                count: 0,
+            };
+            let mut b = 0;
+            let p = 'scan: loop {
+                if b == KEY_SIZE {
+                    break 'scan leader.position;
+                }
+                leader = self.leader_after(&standing, b, leader);
+                b += 1;
+            };
+            pattern = ternary::bits::fix_bit(pattern, self.key, p);
+            standing = self.left(p, &standing);
+            fixed += 1;
+        }
+        with_counts(pattern, fixed)
+    }
 }
 
 // The key's best rule isolated for it.
@@ -117,6 +111,10 @@ pub fn isolate_best(policy: &[u8], key: &[u8], number: usize) -> Isolated
     requires { Ready policy.now key.now number }
     ensures { as_isolated result ≡ isolate positions (rules key_size policy.now) key.now number }
 {
-    let row = row_at(key, 0);
-    isolate_rule(policy, row, number, dependents_of(policy, number))
+    let asked = Asked {
+        policy,
+        key: row_at(key, 0),
+        number,
+    };
+    asked.isolate_rule(dependents_of(policy, number))
 }

@@ -1,4 +1,4 @@
--- `isolate::separation::left` meets its contract: those of the first items that are not separated. Assumes nothing.
+-- `isolate::separation::Asked::left` meets its contract: those of the first items that are not separated. Assumes nothing.
 use mathlib.Core.Path.{◌≡◌}
 use mathlib.Core.Bool.{not}
 use Prim.Native.Nat.{◌≤◌}
@@ -7,8 +7,8 @@ use Rattle.model.specs.Below.{keep}
 use Rattle.model.specs.Isolate.{separates}
 use Rattle.ternary.specs.Sizes.{key_size}
 use Rattle.records.specs.Rules.{rules}
-use Rattle.isolate.proofs.separation.left.Given as goal
+use Rattle.isolate.proofs.separation.Asked.left.Given as goal
 
 abbrev pub invariant-loop-d : goal.invariant-loop-d
 invariant-loop-d l = (length l.left.items ≤ l.d-index)
-    × (l.left.items ≡ keep (λ e. not (separates (rules key_size l.policy) l.key l.number l.p e)) (take l.d-index l.standing.items))
+    × (l.left.items ≡ keep (λ e. not (separates (rules key_size l.self.policy.now) l.self.key l.self.number l.p e)) (take l.d-index l.standing.items))

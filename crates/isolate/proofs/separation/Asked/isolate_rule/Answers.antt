@@ -1,4 +1,4 @@
--- `isolate::rounds::isolate_rule` meets its contract: a turn of the rounds is a round of the model. Assumes nothing.
+-- `isolate::separation::Asked::isolate_rule` meets its contract: a turn of the rounds is a round of the model. Assumes nothing.
 use mathlib.Core.Path.{◌≡◌, ◌∙◌}
 use borrow.Author.Rules.{rules}
 use Prim.Native.Nat.{ℕ, ◌+◌, ◌*◌, ◌<◌}
@@ -11,17 +11,16 @@ use Rattle.ternary.specs.Sizes.{key_size, positions}
 use Rattle.isolate.specs.Leads.{separated, Leads}
 use Rattle.records.proofs.RuleLaws.{rule-count}
 use Rattle.isolate.proofs.RoundsLaws.{going_start, going-under, going-stop, going_less, going_next, chosen-inside, leads-none}
-use Rattle.isolate.proofs.rounds.isolate_rule.Goals as goal
+use Rattle.isolate.proofs.separation.Asked.isolate_rule.Goals as goal
 
 pub rounds-init : goal.rounds-init
-rounds-init c = going_start _ _ _ _ _ _ c.requires.2 c.requires.1 c.rule_pattern-pattern.ensures
+rounds-init c = going_start _ _ _ _ _ _ c.requires.1 c.requires.0 c.rule_pattern-pattern.ensures
 
 pub scan-init : goal.scan-init
 scan-init c = (search rules, leads-none _)
 
 pub leader_after-leader-requires : goal.leader_after-leader-requires
 leader_after-leader-requires c = (
-  c.requires.0,
   omega (arith, c.scan.invariant.0, c.if-b-eq-KEY_SIZE.false),
   going-under _ _ _ _ _ _ _ _ _ c.rounds.invariant (rule-count key_size _),
   c.scan.invariant.1,
@@ -43,7 +42,6 @@ fix_bit-pattern-requires c = rw (leads-all _ _ _ _ _ _ _ c.scan.invariant.1 c.if
 
 pub left-standing-requires : goal.left-standing-requires
 left-standing-requires c = (
-  c.requires.0,
   rw (leads-all _ _ _ _ _ _ _ c.scan.invariant.1 c.if-b-eq-KEY_SIZE.true) (chosen-inside _ _ _ (search rules)),
   going-under _ _ _ _ _ _ _ _ _ c.rounds.invariant (rule-count key_size _),
 )

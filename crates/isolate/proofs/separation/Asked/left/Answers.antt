@@ -1,4 +1,4 @@
--- `isolate::separation::left` meets its contract: those of the first items that are not separated. Assumes nothing.
+-- `isolate::separation::Asked::left` meets its contract: those of the first items that are not separated. Assumes nothing.
 use native.Mathlib.Omega.{arith}
 use mathlib.Core.Path.{refl, sym, ap, ◌∙◌}
 use mathlib.Core.Bool.{Bool, not}
@@ -9,8 +9,8 @@ use Rattle.model.specs.Isolate.{separates}
 use Rattle.ternary.specs.Sizes.{key_size}
 use Rattle.records.specs.Rules.{rules as rules_of}
 use Rattle.isolate.proofs.StandingLaws.{kept, passed}
-use Rattle.isolate.proofs.separation.left.Goals as goal
-use Rattle.isolate.proofs.separation.left.Goals.{then-not-separates, else-not-separates}
+use Rattle.isolate.proofs.separation.Asked.left.Goals as goal
+use Rattle.isolate.proofs.separation.Asked.left.Goals.{then-not-separates, else-not-separates}
 
 pub loop-d-init : goal.loop-d-init
 unfolding keep
@@ -19,7 +19,7 @@ loop-d-init c = rw c.new-left.ensures (omega arith, refl)
 pub loop-d-preserved : goal.loop-d-preserved
 loop-d-preserved c =
     let a = c.args in
-    let stays : ℕ → Bool = λ e. not (separates (rules_of key_size a.policy.now) a.key a.number a.p e) in
+    let stays : ℕ → Bool = λ e. not (separates (rules_of key_size a.self.now.policy.now) a.self.now.key a.self.now.number a.p e) in
     let items = c.as_slice-d-items.ensures.value in
     let below : c.loop-d.d-index < length a.standing.now.items = rw items at c.loop-d-test.true in
     let test = rw (c.from.ensures, items) at c.separates.ensures in

@@ -1,10 +1,10 @@
--- `isolate::rounds::leader_after` meets its contract: the positions of the byte below q are seen. Assumes nothing.
+-- `isolate::separation::Asked::leader_after` meets its contract: the positions of the byte below q are seen. Assumes nothing.
 use native.Mathlib.Omega.{arith}
 use mathlib.Core.Path.{◌≡◌, ◌∙◌}
 use Prim.Native.Nat.{◌+◌, ◌*◌}
 use Rattle.isolate.proofs.RoundsLaws.{leads-taken, leads-kept}
-use Rattle.isolate.proofs.rounds.leader_after.Goals as goal
-use Rattle.isolate.proofs.rounds.leader_after.Goals.{then-leader-count, else-leader-count}
+use Rattle.isolate.proofs.separation.Asked.leader_after.Goals as goal
+use Rattle.isolate.proofs.separation.Asked.leader_after.Goals.{then-leader-count, else-leader-count}
 
 pub loop-q-preserved : goal.loop-q-preserved
 loop-q-preserved c =

@@ -1,11 +1,11 @@
--- `isolate::separation::column_of` meets its contract: the bytes have the bits of what is separated of the first items. Assumes nothing.
+-- `isolate::separation::Asked::column_of` meets its contract: the bytes have the bits of what is separated of the first items. Assumes nothing.
 use native.Mathlib.Omega.{arith}
 use Prim.Native.Nat.{◌<◌}
 use lib.ListN.{length}
 use Rattle.isolate.proofs.SeparateLaws.{separates-here}
 use Rattle.isolate.proofs.ColumnLaws.{marks-none, marks-more, marks-same}
-use Rattle.isolate.proofs.separation.column_of.Goals as goal
-use Rattle.isolate.proofs.separation.column_of.Goals.{then-bits-ne0, else-bits-ne0}
+use Rattle.isolate.proofs.separation.Asked.column_of.Goals as goal
+use Rattle.isolate.proofs.separation.Asked.column_of.Goals.{then-bits-ne0, else-bits-ne0}
 
 pub loop-d-init : goal.loop-d-init
 loop-d-init c = rw c.new-column.ensures (omega arith, marks-none _ _)

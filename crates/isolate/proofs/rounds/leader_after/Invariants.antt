@@ -1,9 +1,0 @@
--- `isolate::rounds::leader_after` meets its contract: the positions of the byte below q are seen. Assumes nothing.
-use Prim.Native.Nat.{◌+◌, ◌*◌}
-use Rattle.ternary.specs.Sizes.{key_size}
-use Rattle.records.specs.Rules.{rules}
-use Rattle.isolate.specs.Leads.{separated, Leads}
-use Rattle.isolate.proofs.rounds.leader_after.Given as goal
-
-abbrev pub invariant-loop-q : goal.invariant-loop-q
-invariant-loop-q l = Leads (separated (rules key_size l.policy) l.fn.key l.number l.standing.items) (l.b * 8 + l.q) l.leader.position l.leader.count
