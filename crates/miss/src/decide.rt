@@ -14,50 +14,60 @@ use records::{kinds, layout};
 use slots::choose::{largest_sequence, slot_for_entry};
 use slots::find::first_slot_for;
 
-// The decision that the rule goes, isolated for the key, to the slot for a new entry, under that sequence.
-fn new_entry(policy: &[u8], key: &[u8], keeper: &[u8], best: BestRule, sequence: u32) -> Decision
-    requires { RuleFor policy.now key.now best.number best.action × WholeSlots keeper.now ×
-        (sequence ≡ suc (largest (slots key_size keeper.now))) }
-    ensures { DecidedAs policy.now keeper.now
-        (entry_miss policy.now key.now keeper.now best.number) result }
-{
-    let BestRule { number, action } = best;
-    let isolated = isolate::rounds::isolate_best(policy, key, usize::from(number));
-    let i = slot_for_entry(keeper);
-    Decision {
-        outcome: entry_outcome(keeper, i, action, number),
-        write: Some(Write {
-            slot: i as u16,
-            sequence,
-            pattern: isolated.pattern,
-            action,
-            rule: number,
-        }),
-    }
+// A miss whose key has a best rule, and the keeper that it asks.
+#[derive(Clone, Copy)]
+struct Ruled<'a> {
+    policy: &'a [u8],
+    key: &'a [u8],
+    keeper: &'a [u8],
+    best: BestRule,
+    ghost ruled: { RuleFor policy.now key.now best.number best.action },
+    ghost whole: { WholeSlots keeper.now },
 }
 
-// The decision for a rule whose key no slot takes: used up, or an entry is placed.
-fn fresh_entry(policy: &[u8], key: &[u8], keeper: &[u8], best: BestRule) -> Decision
-    requires { RuleFor policy.now key.now best.number best.action × WholeSlots keeper.now }
-    ensures { DecidedAs policy.now keeper.now
-        (miss_with policy.now key.now keeper.now (Some best.number) None) result }
-{
-    let last = largest_sequence(keeper);
-    if last == layout::LAST_SEQUENCE {
-        return no_write(kinds::USED_UP, best.action, Some(best.number));
+impl<'a> Ruled<'a> {
+    // The decision that the rule goes, isolated for the key, to the slot for a new entry, under that sequence.
+    fn new_entry(&self, sequence: u32) -> Decision
+        requires { sequence ≡ suc (largest (slots key_size self.now.keeper.now)) }
+        ensures { DecidedAs self.now.policy.now self.now.keeper.now
+            (entry_miss self.now.policy.now self.now.key.now self.now.keeper.now self.now.best.number) result }
+    {
+        let BestRule { number, action } = self.best;
+        let isolated = isolate::rounds::isolate_best(self.policy, self.key, usize::from(number));
+        let i = slot_for_entry(self.keeper);
+        Decision {
+            outcome: entry_outcome(self.keeper, i, action, number),
+            write: Some(Write {
+                slot: i as u16,
+                sequence,
+                pattern: isolated.pattern,
+                action,
+                rule: number,
+            }),
+        }
     }
-    new_entry(policy, key, keeper, best, last + 1)
-}
 
-// The decision for a key that has a best rule.
-fn with_rule(policy: &[u8], key: &[u8], keeper: &[u8], best: BestRule) -> Decision
-    requires { RuleFor policy.now key.now best.number best.action × WholeSlots keeper.now }
-    ensures { DecidedAs policy.now keeper.now
-        (rule_miss policy.now key.now keeper.now best.number) result }
-{
-    match first_slot_for(keeper, key) {
-        Some(i) => write_again(keeper, i),
-        None => fresh_entry(policy, key, keeper, best),
+    // The decision where no slot takes the key: used up, or an entry is placed.
+    fn fresh_entry(&self) -> Decision
+        ensures { DecidedAs self.now.policy.now self.now.keeper.now
+            (miss_with self.now.policy.now self.now.key.now self.now.keeper.now (Some self.now.best.number) None) result }
+    {
+        let last = largest_sequence(self.keeper);
+        if last == layout::LAST_SEQUENCE {
+            return no_write(kinds::USED_UP, self.best.action, Some(self.best.number));
+        }
+        self.new_entry(last + 1)
+    }
+
+    // The decision for the key: the write of a slot that takes the key again, or a fresh entry.
+    fn with_rule(&self) -> Decision
+        ensures { DecidedAs self.now.policy.now self.now.keeper.now
+            (rule_miss self.now.policy.now self.now.key.now self.now.keeper.now self.now.best.number) result }
+    {
+        match first_slot_for(self.keeper, self.key) {
+            Some(i) => write_again(self.keeper, i),
+            None => self.fresh_entry(),
+        }
     }
 }
 
@@ -68,7 +78,15 @@ pub fn decide_miss(policy: &[u8], key: &[u8], keeper: &[u8]) -> Decision
         (miss_in policy.now key.now keeper.now) result }
 {
     match best_rule(policy, key) {
-        Some(best) => with_rule(policy, key, keeper, best),
+        Some(best) => {
+            let miss = Ruled {
+                policy,
+                key,
+                keeper,
+                best,
+            };
+            miss.with_rule()
+        }
         None => no_write(kinds::NO_RULE, 0, None),
     }
 }
