@@ -1,6 +1,6 @@
 -- What a clean record is: its spare bytes are zero, and its value is 0 at every wildcard. For every width. Assumes nothing.
 use mathlib.Core.Path.{◌≡◌, refl, ap}
-use mathlib.Core.Bool.{true, false}
+use mathlib.Core.Bool.{true}
 use mathlib.Core.List.{List, [], ◌∷◌}
 use Rattle.std.specs.Prelude.{Option, None, Some, option_map}
 use mathlib.Core.Logic.{◌↔◌}

@@ -1,45 +1,62 @@
 -- A stray bit lies inside its row; the search for a spare byte; of two flaws the one that is told. Assumes nothing.
-use mathlib.Core.Path.{◌≡◌, refl, ◌∙◌}
+use mathlib.Core.Path.{◌≡◌, refl, sym, ap, ◌∙◌}
 use mathlib.Core.List.{List, [], ◌∷◌}
-use Rattle.std.specs.Prelude.{Option, None, Some}
-use Rattle.std.specs.Option.{option_or}
-use Prim.Native.Nat.{ℕ, suc, ◌+◌, ◌-◌, ◌≤◌, ◌<◌}
+use Rattle.std.specs.Prelude.{Option, None, Some, option_map}
+use Rattle.std.specs.Option.{MatchOption, option_or}
+use Rattle.std.specs.List.{AllWithin, HoldsAt}
+use Prim.Native.Nat.{ℕ, zero, suc, ◌+◌, ◌≤◌, ◌<◌}
 use native.Mathlib.Omega.{arith}
+use native.Mathlib.Numerals.{unary_clauses}
 use borrow.Author.Tests.{eq-eqb, ne_eqb}
 use lib.Dec.{ltb, eqb}
-use lib.ListN.{get_or}
+use lib.ListN.{length, get_or, drop}
+use lib.Seq.{get_or-take, get_or-drop}
 use Rattle.model.specs.Pattern.{first_stray, stray_in}
 use Rattle.model.proofs.Cases.{by_cases}
 use Rattle.model.proofs.OrderLaws.{foremost-some}
+use Rattle.buffers.specs.Parts.{part}
+use Rattle.buffers.proofs.PartLaws.{part_length}
 use Rattle.checks.specs.Flaws.{first_nonzero, offsets, flaw_of}
-use Rattle.checks.specs.declared.flaw.Flaw.TheVariants.{Spare}
 
 pub stray-inside : (w : ℕ) (value mask : List ℕ) (i : ℕ) → first_stray w value mask ≡ Some i → i < w
 unfolding first_stray
 stray-inside w value mask i e = (foremost-some (stray_in value mask) ltb w i e).0
 
--- ---- the search from `at` up to `end`
+-- ---- the search of the n bytes from `at` on
 
--- what is left of it at i gives the answer
-pub record Left (c : List ℕ) (at end i : ℕ) : Type 0 where
-  pub same : first_nonzero (offsets at (end - at)) c ≡ first_nonzero (offsets i (end - i)) c
+next : (c : List ℕ) (at k : ℕ) → get_or c (at + (k + 1)) 0 ≡ 0 → get_or c (at + 1 + k) 0 ≡ 0
+next c at k h = let e : at + 1 + k ≡ at + (k + 1) = omega arith in rw e h
 
-pub left-all : {c : List ℕ} {at end : ℕ} → Left c at end at
-left-all = record { same = refl }
+back : (c : List ℕ) (at i : ℕ) → get_or c (at + 1 + i) 0 ≡ 0 → get_or c (at + suc i) 0 ≡ 0
+back c at i h = let e : at + suc i ≡ at + 1 + i = omega arith in rw e h
 
-module _ {c : List ℕ} {at end i : ℕ} (h : Left c at end i) where
-  pub left-none : end ≤ i → None ≡ flaw_of (first_nonzero (offsets at (end - at)) c) None
-  left-none l = let e : end - i ≡ 0 = omega arith in rw (h.same, e)
+all-zero : (c : List ℕ) (n at : ℕ) → ((k : ℕ) → k < n → get_or c (at + k) 0 ≡ 0) → first_nonzero (offsets at n) c ≡ None
+all-zero c zero at h = refl
+all-zero c (suc n) at h =
+    rw (eq-eqb (get_or c at 0) 0 (simp unary_clauses at (h 0 (omega arith))))
+    (all-zero c n (at + 1) (λ k l. next c at k (h (k + 1) (omega arith))))
 
-  module _ (l : i < end) where
-    one_more : end - i ≡ suc (end - (i + 1))
-    one_more = omega arith
+first-there : (c : List ℕ) (n at i : ℕ) → i < n → (get_or c (at + i) 0 ≡ 0 → ⊥) → ((k : ℕ) → k < i → get_or c (at + k) 0 ≡ 0)
+    → first_nonzero (offsets at n) c ≡ Some (at + i)
+first-there c zero at i l ne h = absurd (omega arith)
+first-there c (suc n) at zero l ne h = rw (ne_eqb (get_or c at 0) 0 (simp unary_clauses at ne)) (simp unary_clauses refl)
+first-there c (suc n) at (suc i) l ne h =
+    rw (eq-eqb (get_or c at 0) 0 (simp unary_clauses at (h 0 (omega arith))))
+    (let e : at + 1 + i ≡ at + suc i = omega arith in first-there c n (at + 1) i (omega arith) (λ z. ne (back c at i z)) (λ k m. next c at k (h (k + 1) (omega arith))) ∙ ap Some e)
 
-    pub left-more : get_or c i 0 ≡ 0 → Left c at end (i + 1)
-    left-more z = record { same = h.same ∙ rw (one_more, eq-eqb _ _ z) }
+-- what the search of those bytes in order finds
+module _ (c : List ℕ) (n at : ℕ) (inside : at + n ≤ length c) where
+  read : (k : ℕ) → k < n → get_or (part n at c) k 0 ≡ get_or c (at + k) 0
+  read k l = get_or-take n (drop at c) k 0 l ∙ get_or-drop at c k 0
 
-    pub left_here : (get_or c i 0 ≡ 0 → ⊥) → Some (Spare i) ≡ flaw_of (first_nonzero (offsets at (end - at)) c) None
-    left_here z = rw (h.same, one_more, ne_eqb _ _ z)
+  pub first-spare : (r : Option ℕ)
+      → MatchOption r (AllWithin (λ x. x ≡ 0) (part n at c) 0 (length (part n at c)))
+      (λ i. (i < length (part n at c)) × HoldsAt (λ x. x ≡ 0 → ⊥) (part n at c) i × AllWithin (λ x. x ≡ 0) (part n at c) 0 i)
+      → first_nonzero (offsets at n) c ≡ option_map (λ i. at + i) r
+  first-spare None is = all-zero c n at (λ k l. sym (read k l) ∙ is k 0 (omega arith) (omega (arith, part_length n at c inside)))
+  first-spare (Some i) is =
+      let l : i < n = omega (arith, is.0, part_length n at c inside) in
+      first-there c n at i l (λ z. is.1 0 (read i l ∙ z)) (λ k m. sym (read k (omega arith)) ∙ is.2 k 0 (omega arith) m)
 
 -- ---- of two flaws the first is told
 

@@ -1,5 +1,5 @@
 -- The first record with a flaw. Assumes nothing.
-use Rattle.std.specs.Prelude.{not, List, ℕ, ◌/◌, ◌%◌, ltb, eqb, length, Option, None, Some, option_map, option_and_then, is_some}
+use Rattle.std.specs.Prelude.{not, List, ℕ, ◌/◌, ◌%◌, ltb, eqb, length, Option, option_map, option_and_then, is_some}
 use Rattle.model.specs.Below.{first_below}
 use Rattle.buffers.specs.Parts.{chunk}
 use Rattle.checks.specs.declared.flaw.Flaw.{Flaw}

@@ -18,27 +18,22 @@ fn stray_flaw(r: &[u8], value: usize, mask: usize) -> Option<Flaw>
     requires { (value + key_size ≤ length r.now) × (mask + key_size ≤ length r.now) }
     ensures { result ≡ flaw_of None (stray_byte_in key_size value mask r.now) }
 {
-    match ternary::bits::first_stray(
+    ternary::bits::first_stray(
         &r[value..value + layout::KEY_SIZE],
         &r[mask..mask + layout::KEY_SIZE],
-    ) {
-        None => None,
-        Some(i) => Some(Flaw::Stray(value + i)),
-    }
+    )
+    .map(|i| Flaw::Stray(value + i))
 }
 
 // The bytes from `at` up to `end`, which must be zero, as a flaw: the first that is not.
 fn spare_flaw(r: &[u8], at: usize, end: usize) -> Option<Flaw>
-    requires { end ≤ length r.now }
+    requires { (at ≤ end) × (end ≤ length r.now) }
     ensures { result ≡ flaw_of (first_nonzero (offsets at (end - at)) r.now) None }
 {
-    for i in at..end {
-        let byte = r[i];
-        if byte != 0 {
-            return Some(Flaw::Spare(i));
-        }
-    }
-    None
+    r[at..end]
+        .iter()
+        .position(|byte| *byte != 0)
+        .map(|i| Flaw::Spare(at + i))
 }
 
 // The flaw of a rule's record.

@@ -87,10 +87,8 @@ pub struct Flawed {
 pub fn first_flawed<R: Record>(records: &[u8]) -> Option<Flawed>
     ensures { result ≡ first_flawed (flaw_at R.flaw_of R.SIZE records.now) (length records.now / R.SIZE) }
 {
-    let size = R::SIZE;
-    for place in 0..records.len() / size {
-        let at = size * place;
-        if let Some(flaw) = R::flaw(&records[at..at + size]) {
+    for (place, record) in records.chunks_exact(R::SIZE).enumerate() {
+        if let Some(flaw) = R::flaw(record) {
             return Some(Flawed { place, flaw });
         }
     }

@@ -1,5 +1,5 @@
 -- The open slots: the loop that lists them, and each way out of the call. Assumes nothing.
-use Rattle.std.specs.Prelude.{Result, Err}
+use Rattle.std.specs.Prelude.{None, Some, Result, Err}
 use mathlib.Core.Path.{◌≡◌, sym, ◌∙◌}
 use mathlib.Core.Bool.{Bool, true, false}
 use mathlib.Core.List.{List, [], ◌∷◌, ◌++◌}
@@ -12,15 +12,14 @@ use Rattle.ends.specs.Records.{slot_at}
 use Rattle.ends.specs.Ends.{is_open, open_list}
 use Rattle.model.specs.Below.{list_below}
 use Rattle.checks.specs.declared.refusal.Refusal.{Refusal}
-use Rattle.checks.specs.declared.refusal.Refusal.TheVariants.{BadSlots}
 use Rattle.model.proofs.OrderLaws.{list-more}
 use Rattle.ternary.specs.Sizes.{key_size}
 use Rattle.records.specs.Layout.{most_slots}
 use Rattle.end_records.specs.Slots.{slots}
 use Rattle.records.specs.SlotBuffers.{slot_count}
-use Rattle.checks.specs.BufferRefusals.{slots_fit, slots_refusal}
+use Rattle.checks.specs.BufferRefusals.{slots_refusal}
 use Rattle.end_records.proofs.SlotLaws.{slot-count}
-use Rattle.checks.proofs.FitLaws.{fit-whole}
+use Rattle.checks.proofs.FitLaws.{slots-accepted}
 use Rattle.lists.specs.Answers.{Answered}
 use Rattle.lists.proofs.GatherLaws.{listed-few, listed-passed, listed-all}
 use Rattle.keeper.specs.Opens.{open_in, open_refusal, Opened}
@@ -53,22 +52,17 @@ list-few keeper = omega (arith, listed-few (open_at keeper) ltb (length (slots k
 
 -- ---- each way out
 
-pub few-slots : (keeper : List ℕ) {b : Bool} → b ≡ slots_fit keeper → b ≡ true → slot_count key_size keeper ≤ most_slots
-few-slots keeper e t = (fit-whole keeper (sym e ∙ t)).few-there
+pub few-slots : (keeper : List ℕ) → slots_refusal keeper ≡ None → slot_count key_size keeper ≤ most_slots
+few-slots keeper fine = ((slots-accepted keeper).0 fine).few-there
 
--- there are no more of them than slots
-pub list-few : (keeper : List ℕ) → length (open_in keeper) ≤ slot_count key_size keeper
-unfolding open_list
-list-few keeper = omega (arith, listed-few (open_at keeper) ltb (length (slots key_size keeper)), slot-count key_size keeper)
+module _ (keeper out : List ℕ) where
+  pub refused-slots : {r : Refusal} → slots_refusal keeper ≡ Some r → Opened keeper out (Err r) out
+  unfolding open_refusal
+  refused-slots bad = record { answer = rw bad; out-after = rw bad }
 
-module _ (keeper out : List ℕ) {b : Bool} (e : b ≡ slots_fit keeper) where
-  pub refused-slots : b ≡ false → Opened keeper out (Err BadSlots) out
-  unfolding open_refusal slots_refusal
-  refused-slots t = record { answer = rw (sym e ∙ t); out-after = rw (sym e ∙ t) }
-
-  pub opened-list : {xs : List ℕ} {r : Result ℕ Refusal} {out' : List ℕ} → b ≡ true → xs ≡ open_in keeper
+  pub opened-list : {xs : List ℕ} {r : Result ℕ Refusal} {out' : List ℕ} → slots_refusal keeper ≡ None → xs ≡ open_in keeper
       → Answered xs out r out' → Opened keeper out r out'
-  unfolding open_refusal slots_refusal
-  opened-list t list a =
+  unfolding open_refusal
+  opened-list fine list a =
       let told = rw list at a in
-      record { answer = rw (sym e ∙ t) told.answer; out-after = rw (sym e ∙ t) told.out-after }
+      record { answer = rw fine told.answer; out-after = rw fine told.out-after }

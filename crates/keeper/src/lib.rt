@@ -7,6 +7,7 @@ pub mod reports;
 ghost use Rattle.keeper.specs.Reports.{Reported};
 ghost use Rattle.keeper.specs.Opens.{Opened};
 
+use checks::buffer::slot_count;
 use checks::refusal::Refusal;
 
 // A report arrives: refusal 4 of the keeper, then 1, 8, 3, 9, 10 and 11 of the message; a refusal changes nothing.
@@ -23,9 +24,7 @@ pub fn report(keeper: &mut [u8], message: &[u8]) -> Result<(), Refusal>
 pub fn open_list(keeper: &[u8], out: &mut [u8]) -> Result<usize, Refusal>
     ensures { Opened keeper.now out.old result out.new }
 {
-    if !checks::buffer::slots_fit(keeper) {
-        return Err(Refusal::BadSlots);
-    }
+    slot_count(keeper)?;
     let list = open_slots::open_slots(keeper);
     lists::list_answer(&list, out)
 }

@@ -2,11 +2,13 @@
 ghost use Rattle.std.specs.Prelude.{◌≡◌};
 ghost use Rattle.ends.specs.Ends.{report_refusal};
 ghost use Rattle.ternary.specs.Sizes.{key_size};
+ghost use Rattle.records.specs.SlotBuffers.{slot_count};
 ghost use Rattle.checks.specs.Refusals.{verdict_of};
 ghost use Rattle.end_records.specs.Slots.{slots};
 ghost use Rattle.end_records.specs.MessageStructs.{as_report};
 ghost use Rattle.keeper.specs.Reports.{numbered, bytes_refusal, report_answer};
 
+use checks::buffer::slot_count;
 use checks::refusal::Refusal;
 use end_records::report::Report;
 use records::layout;
@@ -27,12 +29,13 @@ fn check_bytes(message: &[u8]) -> Result<(), Refusal>
     Ok(())
 }
 
-// Whether the report is one of a slot of this keeper, and of an entry that it wrote: refusals 9, 10 and 11.
-fn check_slot(keeper: &[u8], x: Report) -> Result<(), Refusal>
+// Whether the report is one of a slot of this keeper, which has `count` slots, and of an entry that it wrote: refusals 9, 10 and 11.
+fn check_slot(keeper: &[u8], count: usize, x: Report) -> Result<(), Refusal>
+    requires { count ≡ slot_count key_size keeper.now }
     ensures { result ≡ verdict_of (numbered (report_refusal (slots key_size keeper.now) (as_report x))) }
 {
     let i = usize::from(x.slot);
-    if keeper.len() / layout::SLOT_SIZE <= i {
+    if count <= i {
         return Err(Refusal::NoSuchSlot);
     }
     if x.sequence == 0 {
@@ -48,9 +51,7 @@ fn check_slot(keeper: &[u8], x: Report) -> Result<(), Refusal>
 pub(crate) fn check_report(keeper: &[u8], message: &[u8]) -> Result<(), Refusal>
     ensures { result ≡ report_answer keeper.now message.now }
 {
-    if !checks::buffer::slots_fit(keeper) {
-        return Err(Refusal::BadSlots);
-    }
+    let count = slot_count(keeper)?;
     check_bytes(message)?;
-    check_slot(keeper, end_records::report::report_of(message))
+    check_slot(keeper, count, end_records::report::report_of(message))
 }

@@ -1,18 +1,17 @@
 -- What the tests of the parts say, and what parts are that no test refuses. Assumes nothing.
 use mathlib.Core.Path.{◌≡◌, sym, ◌∙◌}
-use mathlib.Core.Bool.{Bool, true, false}
 use mathlib.Core.List.{List}
 use mathlib.Core.Logic.{◌≢◌}
 use Rattle.std.specs.Prelude.{None, Some, Result, Ok, Err}
 use Prim.Native.Nat.{ℕ}
 use lib.ListN.{length}
 use borrow.Author.Tests.{eq-eqb, ne_eqb}
-use Rattle.checks.specs.declared.refusal.Refusal.TheVariants.{BadSlots, Ragged}
+use Rattle.checks.specs.declared.refusal.Refusal.TheVariants.{Ragged}
 use Rattle.ternary.specs.Sizes.{key_size}
 use Rattle.checks.specs.Keys.{key_refusal}
 use Rattle.checks.specs.declared.refusal.Refusal.{Refusal}
 use Rattle.checks.proofs.RefusalLaws.{none_first, key-accepted}
-use Rattle.checks.specs.BufferRefusals.{slots_fit, slots_refusal}
+use Rattle.checks.specs.BufferRefusals.{slots_refusal}
 use Rattle.checks.proofs.FitLaws.{slots-accepted}
 use Rattle.policy.specs.Refusals.{policy_refusal}
 use Rattle.policy.specs.Answers.{check_answer, best_refusal}
@@ -32,14 +31,10 @@ module _ (policy key end : List ℕ) where
     unfolding lent_refusal best_refusal key_refusal
     bad-key k = rw (passed, ne_eqb (length key) key_size k)
 
-    module _ {b : Bool} (k : length key ≡ key_size) (f : b ≡ slots_fit end) where
-      pub bad-end : b ≡ false → lent_refusal policy key end ≡ Some BadSlots
-      unfolding lent_refusal best_refusal key_refusal slots_refusal
-      bad-end x = rw (passed, eq-eqb (length key) key_size k, sym f ∙ x)
-
-      pub none-bad : b ≡ true → lent_refusal policy key end ≡ None
-      unfolding lent_refusal best_refusal key_refusal slots_refusal
-      none-bad x = rw (passed, eq-eqb (length key) key_size k, sym f ∙ x)
+    -- the end's refusal is then that of the whole
+    pub rest-end : length key ≡ key_size → lent_refusal policy key end ≡ slots_refusal end
+    unfolding lent_refusal best_refusal key_refusal
+    rest-end k = rw (passed, eq-eqb (length key) key_size k)
 
   pub parts-fine : lent_refusal policy key end ≡ None → FineLent policy key end
   unfolding lent_refusal best_refusal

@@ -3,6 +3,7 @@ ghost use Rattle.std.specs.Prelude.{◌≡◌};
 ghost use Rattle.checks.specs.Refusals.{verdict_of};
 ghost use Rattle.policy.specs.Lent.{lent_refusal};
 
+use checks::buffer::slot_count;
 use checks::refusal::Refusal;
 use records::layout;
 
@@ -14,8 +15,6 @@ pub fn check_lent(policy: &[u8], key: &[u8], end: &[u8]) -> Result<(), Refusal>
     if key.len() != layout::KEY_SIZE {
         return Err(Refusal::Ragged);
     }
-    if !checks::buffer::slots_fit(end) {
-        return Err(Refusal::BadSlots);
-    }
+    slot_count(end)?;
     Ok(())
 }

@@ -6,6 +6,7 @@ ghost use Rattle.ternary.specs.Sizes.{key_size};
 ghost use Rattle.totals.specs.Sums.{as_totals};
 ghost use Rattle.run.specs.Refusals.{trace_refusal, ends_refusal, run_refusal};
 
+use checks::buffer::slot_count;
 use checks::flawed::{Packet, record_count};
 use checks::refusal::Refusal;
 use records::layout;
@@ -23,12 +24,8 @@ fn check_trace(trace: &[u8]) -> Result<usize, Refusal>
 fn check_ends(table: &[u8], keeper: &[u8]) -> Result<(), Refusal>
     ensures { result ≡ verdict_of (ends_refusal table.now keeper.now) }
 {
-    if !checks::buffer::slots_fit(table) {
-        return Err(Refusal::BadSlots);
-    }
-    if !checks::buffer::slots_fit(keeper) {
-        return Err(Refusal::BadSlots);
-    }
+    slot_count(table)?;
+    slot_count(keeper)?;
     if table.len() != keeper.len() {
         return Err(Refusal::LengthsDiffer);
     }

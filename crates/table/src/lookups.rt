@@ -2,6 +2,7 @@
 ghost use Rattle.std.specs.Prelude.{◌≡◌};
 ghost use Rattle.table.specs.Lookups.{find_answer};
 
+use checks::buffer::slot_count;
 use checks::refusal::Refusal;
 use records::layout;
 
@@ -12,9 +13,7 @@ pub(crate) fn find(key: &[u8], table: &[u8], out_len: usize) -> Result<Option<us
     if key.len() != layout::KEY_SIZE {
         return Err(Refusal::Ragged);
     }
-    if !checks::buffer::slots_fit(table) {
-        return Err(Refusal::BadSlots);
-    }
+    slot_count(table)?;
     // Lent anew, as a part: a slice handed on as it came is copied whole first, and a lookup that hits would wait for that copy.
     let all = &key[0..layout::KEY_SIZE];
     let Some(i) = slots::find::first_slot_for(table, all) else {

@@ -3,6 +3,7 @@ ghost use Rattle.std.specs.Prelude.{◌≡◌};
 ghost use Rattle.checks.specs.Refusals.{verdict_of};
 ghost use Rattle.table.specs.Writes.{write_message_refusal, write_call_refusal};
 
+use checks::buffer::slot_count;
 use checks::refusal::Refusal;
 use records::layout;
 
@@ -32,10 +33,8 @@ fn check_message(message: &[u8], count: usize) -> Result<(), Refusal>
 pub(crate) fn check_write(table: &[u8], message: &[u8], out_len: usize) -> Result<(), Refusal>
     ensures { result ≡ verdict_of (write_call_refusal table.now message.now out_len) }
 {
-    if !checks::buffer::slots_fit(table) {
-        return Err(Refusal::BadSlots);
-    }
-    check_message(message, table.len() / layout::SLOT_SIZE)?;
+    let count = slot_count(table)?;
+    check_message(message, count)?;
     if out_len < layout::REPORT_SIZE {
         return Err(Refusal::ShortOutput);
     }

@@ -1,10 +1,9 @@
--- `checks::flaw::stray_flaw` meets its contract: the rows that are lent are parts of the record. Assumes nothing.
+-- `checks::flaw::stray_flaw` meets its contract: a stray byte lies inside the row, so its place in the record is a number. Assumes nothing.
 use borrow.Author.Rules.{rules}
-use mathlib.Core.Path.{◌≡◌, sym}
-use Rattle.std.specs.Prelude.{Option, None, Some}
+use mathlib.Core.Path.{◌≡◌, ◌∙◌, sym}
 use mathlib.Core.List.{List}
+use Rattle.std.specs.Prelude.{Option}
 use Prim.Native.Nat.{ℕ, ◌+◌, ◌-◌, ◌≤◌}
-use native.Mathlib.Omega.{arith}
 use lib.ListN.{length, take, drop}
 use native.Mathlib.Nat.{add-sub_cancel_left}
 use Rattle.model.specs.Pattern.{first_stray}
@@ -21,23 +20,10 @@ told : {s : Option ℕ} (value mask : ℕ) (r : List ℕ) → value + key_size �
 told value mask r inside is =
     sym (rw (add-sub_cancel_left value key_size, add-sub_cancel_left mask key_size, part_length key_size value r inside) at is)
 
--- a stray bit lies inside the row
-found : (c : goal.In-Some)
-    → let a = c.args in
-    first_stray key_size (part key_size a.value a.r.now) (part key_size a.mask a.r.now) ≡ Some c.in-Some.i
-found c = told c.args.value c.args.mask c.args.r.now (omega arith) c.in-Some.ensures
+pub map-requires : goal.map-requires
+map-requires c x e =
+    let l = stray-inside key_size _ _ x (told c.args.value c.args.mask c.args.r.now c.requires.0 c.first_stray.ensures ∙ e) in
+    search rules
 
-pub overflow_add-result : goal.overflow_add-result
-overflow_add-result c = let l = stray-inside key_size _ _ _ (found c) in search rules
-
--- or there is none
-missed : (c : goal.In-None)
-    → let a = c.args in
-    first_stray key_size (part key_size a.value a.r.now) (part key_size a.mask a.r.now) ≡ None
-missed c = told c.args.value c.args.mask c.args.r.now (omega arith) c.in-None.ensures
-
-pub returns-in-None : goal.returns-in-None
-returns-in-None c = rw (missed c)
-
-pub returns-in-Some : goal.returns-in-Some
-returns-in-Some c = rw (found c)
+pub returns : goal.returns
+returns c = rw (told c.args.value c.args.mask c.args.r.now c.requires.0 c.first_stray.ensures) (search rules)

@@ -1,8 +1,7 @@
 -- `policy::search::best_rule` meets its contract: of the rules below the number the best is kept. Assumes nothing.
 use mathlib.Core.Path.{sym, ◌∙◌}
 use native.Mathlib.Omega.{arith}
-use Rattle.ternary.specs.Sizes.{key_size, positions}
-use Rattle.records.specs.Rules.{rules as rules_of}
+use Rattle.ternary.specs.Sizes.{key_size}
 use Rattle.records.proofs.RuleLaws.{rule-count}
 use Rattle.policy.specs.Best.{best_found}
 use Rattle.policy.proofs.SearchLaws.{kept-none, kept-passed, kept-better, kept-all}
