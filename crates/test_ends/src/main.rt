@@ -7,8 +7,9 @@ use checks::refusal::Refusal;
 use records::layout::{MOST_SLOTS, REPORT_SIZE, WRITE_SIZE};
 use records::outcome::{Outcome, number_or_nothing};
 use show::Source;
-use std::{fs, io};
+use std::io;
 use table::Hit;
+use test_cases::ask::{UnknownCall, ask_each};
 use test_cases::parts::{byte, number, part, part_of};
 use test_cases::questions::Layout;
 use test_cases::say::{Hex, Stop, UNTOUCHED, say_kept, unless_refused};
@@ -31,10 +32,6 @@ enum Call {
     Open,
     Show,
 }
-
-// A number that no call has.
-#[derive(Clone, Copy, PartialEq, Eq, Debug)]
-struct UnknownCall;
 
 impl TryFrom<u8> for Call {
     type Error = UnknownCall;
@@ -167,10 +164,7 @@ fn ask(rt: &impl Print, question: &[u8], buffers: &[u8]) -> io::Result<()> {
 }
 
 fn main(rt: HostRuntime) -> io::Result<()> {
-    let buffers = fs::read(&rt, "buffers.bin")?;
-    let cases = fs::read(&rt, "cases.bin")?;
-    for question in LAYOUT.questions(&cases) {
-        ask(&rt, question, &buffers)?;
-    }
-    Ok(())
+    ask_each(&rt, "buffers.bin", LAYOUT, |question, buffers| {
+        ask(&rt, question, buffers)
+    })
 }

@@ -2,16 +2,14 @@
 // tests/data/policy_cases.py says how the two files are laid out, and makes them.
 #![tactic(auto)]
 
-ghost use Rattle.std.specs.Prelude.{◌<◌};
-ghost use Rattle.ternary.specs.Sizes.{key_size};
-ghost use Rattle.records.specs.Rules.{rule_count};
-
 use checks::refusal::Refusal;
 use isolate::rounds::Isolated;
 use policy::search::BestRule;
 use records::layout::RULE_SIZE;
-use std::{fs, io};
-use ternary::{KEY_SIZE, Pattern, bits, patterns};
+use records::rule::rule_at;
+use std::io;
+use ternary::{KEY_SIZE, bits, patterns};
+use test_cases::ask::{UnknownCall, ask_each};
 use test_cases::parts::{byte, number, part, part_of};
 use test_cases::questions::Layout;
 use test_cases::say::{Hex, Stop, UNTOUCHED, say_kept, say_refused, unless_refused};
@@ -35,10 +33,6 @@ enum Call {
     Overlap,
     Match,
 }
-
-// A number that no call has.
-#[derive(Clone, Copy, PartialEq, Eq, Debug)]
-struct UnknownCall;
 
 impl TryFrom<u8> for Call {
     type Error = UnknownCall;
@@ -142,20 +136,13 @@ fn ask_isolate(rt: &impl Print, policy: &[u8], key: &[u8], number: usize) -> Res
     Ok(())
 }
 
-// The pattern of the i-th rule.
-fn pattern(policy: &[u8], i: usize) -> Pattern
-    requires { i < rule_count key_size policy.now }
-{
-    records::rule::rule_at(policy, i).pattern
-}
-
 // Whether rules a and b of a policy overlap.
 fn ask_overlap(rt: &impl Print, policy: &[u8], a: usize, b: usize) -> io::Result<()> {
     let n = policy.len() / RULE_SIZE;
     if a >= n || b >= n {
         return Ok(());
     }
-    if patterns::overlap(pattern(policy, a), pattern(policy, b)) {
+    if patterns::overlap(rule_at(policy, a).pattern, rule_at(policy, b).pattern) {
         print!(rt; " overlap")
     } else {
         print!(rt; " apart")
@@ -167,7 +154,7 @@ fn ask_match(rt: &impl Print, policy: &[u8], key: &[u8], number: usize) -> io::R
     if number >= policy.len() / RULE_SIZE || key.len() != KEY_SIZE {
         return Ok(());
     }
-    let its = pattern(policy, number);
+    let its = rule_at(policy, number).pattern;
     let word = if patterns::matches(its, records::row::row_at(key, 0)) {
         "matches"
     } else {
@@ -209,10 +196,7 @@ fn ask(rt: &impl Print, policies: &[u8], question: &[u8]) -> io::Result<()> {
 }
 
 fn main(rt: HostRuntime) -> io::Result<()> {
-    let policies = fs::read(&rt, "policies.bin")?;
-    let cases = fs::read(&rt, "cases.bin")?;
-    for question in LAYOUT.questions(&cases) {
-        ask(&rt, &policies, question)?;
-    }
-    Ok(())
+    ask_each(&rt, "policies.bin", LAYOUT, |question, policies| {
+        ask(&rt, policies, question)
+    })
 }

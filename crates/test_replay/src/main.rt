@@ -2,7 +2,8 @@
 // tests/data/replay_cases.py says how the two files are laid out, and makes them.
 #![tactic(auto)]
 
-use std::{fs, io};
+use std::io;
+use test_cases::ask::ask_each;
 use test_cases::parts::part_of;
 use test_cases::questions::Layout;
 use test_cases::say::UNTOUCHED;
@@ -26,10 +27,7 @@ fn ask(rt: &impl Print, question: &[u8], parts: &[u8]) -> io::Result<()> {
 }
 
 fn main(rt: HostRuntime) -> io::Result<()> {
-    let parts = fs::read(&rt, "parts.bin")?;
-    let cases = fs::read(&rt, "cases.bin")?;
-    for question in LAYOUT.questions(&cases) {
-        ask(&rt, question, &parts)?;
-    }
-    Ok(())
+    ask_each(&rt, "parts.bin", LAYOUT, |question, parts| {
+        ask(&rt, question, parts)
+    })
 }

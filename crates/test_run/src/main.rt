@@ -6,7 +6,8 @@
 use checks::refusal::Refusal;
 use records::layout::{MOST_PACKETS, OUTCOME_SIZE};
 use run::Ran;
-use std::{fs, io};
+use std::io;
+use test_cases::ask::ask_each;
 use test_cases::parts::{number, part, part_of};
 use test_cases::questions::Layout;
 use test_cases::say::{Hex, Stop, UNTOUCHED, say_kept, unless_refused};
@@ -88,10 +89,7 @@ fn ask(rt: &impl Print, question: &[u8], buffers: &[u8]) -> io::Result<()> {
 }
 
 fn main(rt: HostRuntime) -> io::Result<()> {
-    let buffers = fs::read(&rt, "buffers.bin")?;
-    let cases = fs::read(&rt, "cases.bin")?;
-    for question in LAYOUT.questions(&cases) {
-        ask(&rt, question, &buffers)?;
-    }
-    Ok(())
+    ask_each(&rt, "buffers.bin", LAYOUT, |question, buffers| {
+        ask(&rt, question, buffers)
+    })
 }
