@@ -3,6 +3,7 @@
 
 ghost use Rattle.replay_files.specs.Status.{IsStatus};
 ghost use Rattle.std.specs.Counts.{IsPrefixLen};
+ghost use Rattle.std.specs.Prelude.{◌≤◌, length};
 
 use std::fs::File;
 use std::io;
@@ -36,17 +37,18 @@ fn read_all(file: &mut impl Read, buf: &mut [u8]) -> usize
     at
 }
 
-// The bytes of a file; one that can't be opened or read counts as empty, and so does one whose name is no text.
-fn read_file(rt: &impl Files, name: &[u8], buf: &mut [u8]) -> usize
-    ensures { IsPrefixLen result buf.new }
+// The bytes of a file, read into buf; one that can't be opened or read counts as empty, and so does one whose name is no text.
+fn read_file<'a>(rt: &impl Files, name: &[u8], buf: &'a mut [u8]) -> &'a [u8]
+    ensures { length result.now ≤ length buf.old }
 {
     let Ok(path) = str::from_utf8(name) else {
-        return 0;
+        return &[];
     };
-    match File::open(rt, path) {
-        Ok(mut file) => read_all(&mut file, buf),
-        Err(_) => 0,
-    }
+    let Ok(mut file) = File::open(rt, path) else {
+        return &[];
+    };
+    let n = read_all(&mut file, buf);
+    &buf[..n]
 }
 
 // Tells on standard error that standard output can't be written, unless it is that nobody reads it, and gives how the program ends.
@@ -84,10 +86,10 @@ pub fn run(
     let mut slots = [0; SLOTS_ROOM];
     let mut policy = [0; POLICY_ROOM];
     let mut trace = [0; TRACE_ROOM];
-    let s = read_file(rt, slots_name, &mut slots);
-    let p = read_file(rt, policy_name, &mut policy);
-    let t = read_file(rt, trace_name, &mut trace);
-    print(rt, &slots[..s], &policy[..p], &trace[..t])
+    let slots = read_file(rt, slots_name, &mut slots);
+    let policy = read_file(rt, policy_name, &mut policy);
+    let trace = read_file(rt, trace_name, &mut trace);
+    print(rt, slots, policy, trace)
 }
 
 // Runs the program in the folder that it was started in.
