@@ -1,5 +1,6 @@
 -- What the contracts on separating cite, above the model.
 pub mod Columns
+pub mod Asked
 -- What the contracts on the rounds cite, above the model.
 pub mod Leads
 pub mod Ready

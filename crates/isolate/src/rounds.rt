@@ -1,10 +1,10 @@
 // The rounds of isolating: each fixes the position that separates the most of the dependents that stand.
-ghost use Rattle.std.specs.Prelude.{◌≡◌, ◌+◌, ◌*◌, ◌<◌, All};
+ghost use Rattle.std.specs.Prelude.{◌≡◌, ◌+◌, ◌*◌, ◌<◌};
 ghost use Rattle.model.specs.Isolate.{isolate};
 ghost use Rattle.model.specs.Policy.{best, dependents as dependents_at};
 ghost use Rattle.ternary.specs.Sizes.{key_size, positions};
-ghost use Rattle.records.specs.Rules.{rule_count, rules};
-ghost use Rattle.isolate.specs.Leads.{separated, Leads};
+ghost use Rattle.records.specs.Rules.{rules};
+ghost use Rattle.isolate.specs.Leads.{Leads};
 ghost use Rattle.isolate.specs.Ready.{Ready};
 ghost use Rattle.isolate.specs.Structs.{as_isolated, with_counts, PatternOf};
 
@@ -43,20 +43,20 @@ struct Leader {
 }
 
 impl<'a> Asked<'a> {
+    ghost use Rattle.isolate.specs.Asked.{rules_of, AreRules, separated_for};
+
     // The rule's pattern.
     fn rule_pattern(&self) -> Pattern
-        ensures { PatternOf (rules key_size self.now.policy.now) self.now.number result.value result.mask }
+        ensures { PatternOf (rules_of self.now) self.now.number result.value result.mask }
     {
         rule_at(self.policy, self.number).pattern
     }
 
     // The leader once the eight positions of byte b are seen too.
     fn leader_after(&self, standing: &Numbers, b: usize, before: Leader) -> Leader
-        requires { (b < key_size) × All (λ d. d < rule_count key_size self.now.policy.now) standing.now.items ×
-            Leads (separated (rules key_size self.now.policy.now) self.now.key self.now.number standing.now.items) (b * 8)
-            before.position before.count }
-        ensures { Leads (separated (rules key_size self.now.policy.now) self.now.key self.now.number standing.now.items) (b * 8 + 8)
-            result.position result.count }
+        requires { (b < key_size) × AreRules self.now standing.now.items ×
+            Leads (separated_for self.now standing.now.items) (b * 8) before.position before.count }
+        ensures { Leads (separated_for self.now standing.now.items) (b * 8 + 8) result.position result.count }
     {
         let column = self.column_of(b, standing);
         let mut leader = before;
@@ -75,9 +75,9 @@ impl<'a> Asked<'a> {
     // The rule isolated for the key, whose best it is. Its dependents all stand at first.
     // Rounds left by label around a scan whose position comes out by break: the form that docs/SENTENCES.md names for this place.
     fn isolate_rule(&self, dependents: Numbers) -> Isolated
-        requires { (best positions (rules key_size self.now.policy.now) self.now.key ≡ Some self.now.number) ×
-            (dependents.items ≡ dependents_at positions (rules key_size self.now.policy.now) self.now.number) }
-        ensures { as_isolated result ≡ isolate positions (rules key_size self.now.policy.now) self.now.key self.now.number }
+        requires { (best positions (rules_of self.now) self.now.key ≡ Some self.now.number) ×
+            (dependents.items ≡ dependents_at positions (rules_of self.now) self.now.number) }
+        ensures { as_isolated result ≡ isolate positions (rules_of self.now) self.now.key self.now.number }
     {
         let mut pattern = self.rule_pattern();
         let mut standing = dependents;

@@ -1,9 +1,8 @@
 // Which dependents of a rule a position separates from it, for a key.
-ghost use Rattle.std.specs.Prelude.{◌≡◌, not, ℕ, ◌<◌, length, get_or, All};
+ghost use Rattle.std.specs.Prelude.{◌≡◌, not, ℕ, ◌<◌, length, get_or};
 ghost use Rattle.model.specs.Below.{keep};
-ghost use Rattle.model.specs.Isolate.{separates as separates_at};
 ghost use Rattle.ternary.specs.Sizes.{key_size, positions};
-ghost use Rattle.records.specs.Rules.{rule_count, rules};
+ghost use Rattle.records.specs.Rules.{rule_count};
 ghost use Rattle.isolate.specs.Columns.{bit_set, Separating, Marks};
 
 use arrayvec::ArrayVec;
@@ -24,10 +23,12 @@ pub(crate) struct Asked<'a> {
 }
 
 impl<'a> Asked<'a> {
+    ghost use Rattle.isolate.specs.Asked.{rules_of, AreRules, separates_for};
+
     // The bits of byte b that are wildcards of the rule, and exact in rule d and not as in the key's byte.
     fn separating(&self, b: usize, d: usize) -> u8
         requires { (b < key_size) × (d < rule_count key_size self.now.policy.now) }
-        ensures { Separating (rules key_size self.now.policy.now) (get_or self.now.key b 0) self.now.number b d result }
+        ensures { Separating (rules_of self.now) (get_or self.now.key b 0) self.now.number b d result }
     {
         let policy = self.policy;
         let own = policy[layout::RULE_SIZE * self.number + layout::RULE_MASK + b];
@@ -39,15 +40,15 @@ impl<'a> Asked<'a> {
     // Whether position p is a wildcard of the rule, and exact in rule d with a bit that is not the key's.
     fn separates(&self, p: usize, d: usize) -> bool
         requires { (p < positions) × (d < rule_count key_size self.now.policy.now) }
-        ensures { result ≡ separates_at (rules key_size self.now.policy.now) self.now.key self.now.number p d }
+        ensures { result ≡ separates_for self.now p d }
     {
         self.separating(p / 8, d) >> (7 - p % 8) & 1 == 1
     }
 
     // The column of byte b of the key: what separates at its eight positions is then counted over bytes side by side.
     pub(crate) fn column_of(&self, b: usize, standing: &Numbers) -> Column
-        requires { (b < key_size) × All (λ d. d < rule_count key_size self.now.policy.now) standing.now.items }
-        ensures { Marks (separates_at (rules key_size self.now.policy.now) self.now.key self.now.number) b standing.now.items result.items }
+        requires { (b < key_size) × AreRules self.now standing.now.items }
+        ensures { Marks (separates_for self.now) b standing.now.items result.items }
     {
         let mut column = Column::new();
         for d in standing.as_slice() {
@@ -60,11 +61,10 @@ impl<'a> Asked<'a> {
     }
 
     // Those of the standing that position p does not separate, in order.
-    // A loop: `retain` takes only a test of any number, not of the policy's rules; `collect` here takes an allocator and gives a Result.
+    // A loop: `retain` takes only a test of any number, `separates` is one of a policy's rules; `collect` takes an allocator and gives a Result.
     pub(crate) fn left(&self, p: usize, standing: &Numbers) -> Numbers
-        requires { (p < positions) × All (λ d. d < rule_count key_size self.now.policy.now) standing.now.items }
-        ensures { result.items ≡
-            keep (λ (e : ℕ). not (separates_at (rules key_size self.now.policy.now) self.now.key self.now.number p e)) standing.now.items }
+        requires { (p < positions) × AreRules self.now standing.now.items }
+        ensures { result.items ≡ keep (λ (e : ℕ). not (separates_for self.now p e)) standing.now.items }
     {
         let mut left = Numbers::new();
         for d in standing.as_slice() {

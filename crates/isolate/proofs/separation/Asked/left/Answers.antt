@@ -5,9 +5,7 @@ use mathlib.Core.Bool.{Bool, not}
 use Prim.Native.Nat.{ℕ, ◌<◌}
 use lib.ListN.{length}
 use Rattle.model.specs.Below.{keep}
-use Rattle.model.specs.Isolate.{separates}
-use Rattle.ternary.specs.Sizes.{key_size}
-use Rattle.records.specs.Rules.{rules as rules_of}
+use Rattle.isolate.specs.Asked.{separates_for}
 use Rattle.isolate.proofs.StandingLaws.{kept, passed}
 use Rattle.isolate.proofs.separation.Asked.left.Goals as goal
 use Rattle.isolate.proofs.separation.Asked.left.Goals.{then-not-separates, else-not-separates}
@@ -19,7 +17,7 @@ loop-d-init c = rw c.new-left.ensures (omega arith, refl)
 pub loop-d-preserved : goal.loop-d-preserved
 loop-d-preserved c =
     let a = c.args in
-    let stays : ℕ → Bool = λ e. not (separates (rules_of key_size a.self.now.policy.now) a.self.now.key a.self.now.number a.p e) in
+    let stays : ℕ → Bool = λ e. not (separates_for a.self.now a.p e) in
     let items = c.as_slice-d-items.ensures.value in
     let below : c.loop-d.d-index < length a.standing.now.items = rw items at c.loop-d-test.true in
     let test = rw (c.from.ensures, items) at c.separates.ensures in

@@ -4,11 +4,9 @@ use mathlib.Core.Bool.{not}
 use Prim.Native.Nat.{◌≤◌}
 use lib.ListN.{length, take}
 use Rattle.model.specs.Below.{keep}
-use Rattle.model.specs.Isolate.{separates}
-use Rattle.ternary.specs.Sizes.{key_size}
-use Rattle.records.specs.Rules.{rules}
+use Rattle.isolate.specs.Asked.{separates_for}
 use Rattle.isolate.proofs.separation.Asked.left.Given as goal
 
 abbrev pub invariant-loop-d : goal.invariant-loop-d
 invariant-loop-d l = (length l.left.items ≤ l.d-index)
-    × (l.left.items ≡ keep (λ e. not (separates (rules key_size l.self.policy.now) l.self.key l.self.number l.p e)) (take l.d-index l.standing.items))
+    × (l.left.items ≡ keep (λ e. not (separates_for l.self l.p e)) (take l.d-index l.standing.items))
