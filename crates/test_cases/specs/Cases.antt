@@ -1,5 +1,5 @@
 -- Parts of a file of test cases, and numbers in it. Assumes nothing.
-use Rattle.std.specs.Prelude.{◌≡◌, cond, List, [], ℕ, ◌+◌, ◌<◌, leb, length, get_or, Option, MatchOption}
+use Rattle.std.specs.Prelude.{◌≡◌, cond, List, [], ℕ, ◌+◌, ◌<◌, leb, length, get_or, replicate, Option, MatchOption}
 use Rattle.std.specs.Borrow.{Bor}
 use Rattle.buffers.specs.BigEndian.{be}
 use Rattle.buffers.specs.Parts.{part}
@@ -7,6 +7,10 @@ use Rattle.buffers.specs.Parts.{part}
 -- the n bytes that begin at `from`; nothing where s ends before
 unfoldable pub part_in : ℕ → ℕ → List ℕ → List ℕ
 part_in from n s = cond (leb (from + n) (length s)) (part n from s) []
+
+-- the n bytes at `at`; n zeros where s ends before
+unfoldable pub bytes_in : ℕ → ℕ → List ℕ → List ℕ
+bytes_in at n s = cond (leb (at + n) (length s)) (part n at s) (replicate n 0)
 
 -- the number of four bytes at `at`; 0 where s ends before
 unfoldable pub number_at : ℕ → List ℕ → ℕ

@@ -6,7 +6,7 @@ use crate::say::Hex;
 use records::layout::SLOT_SIZE;
 use std::io;
 
-// The first n bytes of `s`; none where it has fewer.
+// The first n bytes of `s`; the empty part where it has fewer, and no `None`: `part_in` states it so.
 #[tactic(auto, unfolding(crate::specs::Cases::part_in))]
 pub fn front(s: &mut [u8], n: usize) -> &mut [u8]
     ensures { result.now ≡ part_in 0 n s.old }
@@ -14,18 +14,16 @@ pub fn front(s: &mut [u8], n: usize) -> &mut [u8]
     s.get_mut(..n).unwrap_or(&mut [])
 }
 
-// A copy of `old` in the first bytes of `room`; none where it has fewer.
+// A copy of `old` in the first bytes of `room`; the empty part where it has fewer, and no `None`: `copied_in` states it so.
 #[tactic(auto, unfolding(crate::specs::Cases::copied_in))]
 pub fn copied<'a>(old: &[u8], room: &'a mut [u8]) -> &'a mut [u8]
     ensures { result.now ≡ copied_in old.now room.old }
 {
-    match room.get_mut(..old.len()) {
-        Some(copy) => {
-            copy.copy_from_slice(old);
-            copy
-        }
-        None => &mut [],
-    }
+    let Some(copy) = room.get_mut(..old.len()) else {
+        return &mut [];
+    };
+    copy.copy_from_slice(old);
+    copy
 }
 
 // Each slot of an end whose bytes are not as they were.

@@ -8,7 +8,7 @@ use records::layout::{MOST_PACKETS, OUTCOME_SIZE};
 use run::Ran;
 use std::io;
 use test_cases::ask::ask_each;
-use test_cases::parts::{number, part, part_of};
+use test_cases::parts::{bytes_at, number, part, part_of};
 use test_cases::questions::Layout;
 use test_cases::say::{Hex, Stop, UNTOUCHED, say_kept, unless_refused};
 use test_cases::slots::{copied, front, say_slots};
@@ -21,22 +21,15 @@ const LAYOUT: Layout = Layout {
     lengths: 1,
 };
 
-// The number of eight bytes at `at`; 0 where `s` ends before.
-fn number64(s: &[u8], at: usize) -> u64 {
-    match part(s, at, 8).first_chunk() {
-        Some(eight) => u64::from_be_bytes(*eight),
-        None => 0,
-    }
-}
-
 // The five totals at the start of `s`.
 fn totals_at(s: &[u8]) -> Totals {
+    let total = |at| u64::from_be_bytes(bytes_at(s, at));
     Totals {
-        packets: number64(s, 0),
-        hits: number64(s, 8),
-        misses: number64(s, 16),
-        none: number64(s, 24),
-        evictions: number64(s, 32),
+        packets: total(0),
+        hits: total(8),
+        misses: total(16),
+        none: total(24),
+        evictions: total(32),
     }
 }
 
