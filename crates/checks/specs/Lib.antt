@@ -6,3 +6,5 @@ pub mod Keys
 pub mod BufferRefusals
 -- The first flawed record.
 pub mod Flawed
+-- How a message is refused.
+pub mod Messages

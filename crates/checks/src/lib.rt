@@ -4,4 +4,5 @@
 pub mod buffer;
 pub mod flaw;
 pub mod flawed;
+pub mod message;
 pub mod refusal;

@@ -19,6 +19,7 @@ use Rattle.ternary.specs.Sizes.{key_size}
 use Rattle.records.specs.Layout.{report_kind, report_zero, report_size, is_report}
 use Rattle.checks.specs.Refusals.{need, verdict_of, number_of}
 use Rattle.checks.specs.Flaws.{report_flaw}
+use Rattle.checks.specs.Messages.{message_refusal}
 use Rattle.checks.specs.declared.refusal.Refusal.{Refusal}
 use Rattle.end_records.specs.Slots.{slots}
 use Rattle.records.specs.SlotBuffers.{slot_count, WholeSlots}
@@ -44,6 +45,11 @@ numbered-number k x =
     by_cases (leb (length k) x.slot) (λ a. rw a)
     (λ a. by_cases (eqb x.sequence 0) (λ b. rw (a, b))
     (λ b. by_cases (ltb (slot_at k x.slot).sequence x.sequence) (λ d. rw (a, b, d)) (λ d. rw (a, b, d))))
+
+-- the tests of a report's bytes are those of every message
+pub bytes-message : (message : List ℕ) → bytes_refusal message ≡ message_refusal report_size is_report report_flaw message
+unfolding bytes_refusal
+bytes-message message = refl
 
 -- bytes that are not refused are as many as a report has
 pub bytes-long : (message : List ℕ) → bytes_refusal message ≡ None → length message ≡ report_size

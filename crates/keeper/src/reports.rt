@@ -6,28 +6,12 @@ ghost use Rattle.records.specs.SlotBuffers.{slot_count};
 ghost use Rattle.checks.specs.Refusals.{verdict_of};
 ghost use Rattle.end_records.specs.Slots.{slots};
 ghost use Rattle.end_records.specs.MessageStructs.{as_report};
-ghost use Rattle.keeper.specs.Reports.{numbered, bytes_refusal, report_answer};
+ghost use Rattle.keeper.specs.Reports.{numbered, report_answer};
 
 use checks::buffer::slot_count;
+use checks::message::{ReportMessage, check_message};
 use checks::refusal::Refusal;
 use end_records::report::Report;
-use records::layout;
-
-// Whether the bytes are those of a report: refusals 1, 8 and 3.
-fn check_bytes(message: &[u8]) -> Result<(), Refusal>
-    ensures { result ≡ verdict_of (bytes_refusal message.now) }
-{
-    if message.len() != layout::REPORT_SIZE {
-        return Err(Refusal::Ragged);
-    }
-    if message[layout::REPORT_KIND] != layout::IS_REPORT {
-        return Err(Refusal::WrongKind);
-    }
-    if checks::flaw::report_flaw(message).is_some() {
-        return Err(Refusal::BadRecord { place: 0 });
-    }
-    Ok(())
-}
 
 // Whether the report is one of a slot of this keeper, which has `count` slots, and of an entry that it wrote: refusals 9, 10 and 11.
 fn check_slot(keeper: &[u8], count: usize, x: Report) -> Result<(), Refusal>
@@ -52,6 +36,6 @@ pub(crate) fn check_report(keeper: &[u8], message: &[u8]) -> Result<(), Refusal>
     ensures { result ≡ report_answer keeper.now message.now }
 {
     let count = slot_count(keeper)?;
-    check_bytes(message)?;
+    check_message::<ReportMessage>(message)?;
     check_slot(keeper, count, end_records::report::report_of(message))
 }

@@ -11,7 +11,7 @@ use lib.ListN.{length, get_or}
 use borrow.Author.Tests.{leb-true, ltb-true, eqb-true, eqb-false, le-leb, lt-ltb, eq-eqb, ne_eqb}
 use Rattle.ends.specs.Records.{Slot, Write, report_for}
 use Rattle.ends.specs.Ends.{write_report}
-use Rattle.model.proofs.Cases.{not-true}
+use Rattle.model.proofs.Cases.{by_cases, not-true}
 use Rattle.ternary.specs.Sizes.{key_size}
 use Rattle.buffers.specs.Parts.{splice}
 use Rattle.records.specs.Layout.{write_kind, is_write, write_size, report_size}
@@ -27,7 +27,27 @@ use Rattle.end_records.specs.Reports.{encode_report}
 use Rattle.slots.specs.Stores.{Stored}
 use Rattle.table.specs.Writes.{write_message_refusal, write_call_refusal, GoodWrite, GoodCall, slots_after_write}
 use Rattle.table.specs.Writes.{table_after_write, out_after_write, Received}
-use Rattle.checks.specs.Refusals.{verdict_of}
+use Rattle.checks.specs.Refusals.{or_else, need, verdict_of}
+use Rattle.checks.specs.Messages.{message_refusal}
+use Rattle.checks.specs.declared.refusal.Refusal.TheVariants.{BadRecord, NoSuchSlot, Ragged, SequenceZero, WrongKind}
+
+-- ---- the first tests of a write are those of every message
+
+pub write-begins : (m : List ℕ) (count : ℕ)
+    → write_message_refusal m count
+    ≡ or_else (message_refusal (write_size key_size) is_write (write_flaw key_size) m)
+    (need (ltb (decode_write key_size m).slot count) NoSuchSlot (need (not (eqb (decode_write key_size m).sequence 0)) SequenceZero None))
+unfolding write_message_refusal
+write-begins m count =
+    by_cases (eqb (length m) (write_size key_size))
+    (λ a. by_cases (eqb (get_or m write_kind 0) is_write)
+    (λ b. by_cases (is_some (write_flaw key_size m)) (λ d. rw (a, b, d)) (λ d. rw (a, b, d))) (λ b. rw (a, b))) (λ a. rw a)
+
+-- and so it has a write's size
+pub write-long : (m : List ℕ) → message_refusal (write_size key_size) is_write (write_flaw key_size) m ≡ None → length m ≡ write_size key_size
+write-long m e =
+    eqb-true _ _ (need-none (eqb (length m) (write_size key_size)) Ragged
+    (need (eqb (get_or m 0 0) is_write) WrongKind (need (not (is_some (write_flaw key_size m))) (BadRecord 0) None)) e).0
 
 -- ---- which writes are not refused
 

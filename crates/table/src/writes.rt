@@ -4,6 +4,7 @@ ghost use Rattle.checks.specs.Refusals.{verdict_of};
 ghost use Rattle.table.specs.Writes.{write_message_refusal, write_call_refusal};
 
 use checks::buffer::slot_count;
+use checks::message::WriteMessage;
 use checks::refusal::Refusal;
 use records::layout;
 
@@ -11,15 +12,7 @@ use records::layout;
 fn check_message(message: &[u8], count: usize) -> Result<(), Refusal>
     ensures { result ≡ verdict_of (write_message_refusal message.now count) }
 {
-    if message.len() != layout::WRITE_SIZE {
-        return Err(Refusal::Ragged);
-    }
-    if message[layout::WRITE_KIND] != layout::IS_WRITE {
-        return Err(Refusal::WrongKind);
-    }
-    if checks::flaw::write_flaw(message).is_some() {
-        return Err(Refusal::BadRecord { place: 0 });
-    }
+    checks::message::check_message::<WriteMessage>(message)?;
     if count <= buffers::be16(message, layout::WRITE_SLOT) as usize {
         return Err(Refusal::NoSuchSlot);
     }

@@ -1,48 +1,40 @@
 -- `table::writes::check_message` meets its contract: at each `return` the tests that led there say which refusal it is. Assumes nothing.
+use mathlib.Core.Path.{refl}
+use native.Mathlib.Omega.{arith}
+use Rattle.std.proofs.lemmas.Result.{err_from_is_err_and}
 use borrow.Author.Tests.{eq-eqb, ne_eqb, lt-ltb, le-ltb}
+use Rattle.checks.proofs.RefusalLaws.{verdict-refused, verdict-fine}
 use Rattle.end_records.specs.Writes.{decode_write}
-use Rattle.table.specs.Writes.{write_message_refusal}
+use Rattle.table.proofs.WriteLaws.{write-begins, write-long}
 use Rattle.table.proofs.writes.check_message.Goals as goal
 
-pub returns-then-message-ne-WRITE_SIZE : goal.returns-then-message-ne-WRITE_SIZE
-unfolding write_message_refusal
-returns-then-message-ne-WRITE_SIZE c = rw (ne_eqb _ _ c.if-message-ne-WRITE_SIZE.true)
+pub returns-in_err-check_message : goal.returns-in_err-check_message
+returns-in_err-check_message c =
+    let p = err_from_is_err_and c.from_residual.result c.from_residual.ensures.1 in
+    rw (p.1, p.2, write-begins c.args.message.now c.args.count, verdict-refused _ c.in_err-check_message.ensures refl)
 
-pub returns-then-message-ne-IS_WRITE : goal.returns-then-message-ne-IS_WRITE
-unfolding write_message_refusal
-returns-then-message-ne-IS_WRITE c =
-    rw (eq-eqb _ _ c.if-message-ne-WRITE_SIZE.false, ne_eqb _ _ c.if-message-ne-IS_WRITE.true)
+pub be16-requires : goal.be16-requires
+be16-requires c = let long = write-long c.args.message.now (verdict-fine _ c.in_ok-check_message.ensures refl) in omega arith
 
-pub returns-then-is_some : goal.returns-then-is_some
-unfolding write_message_refusal
-returns-then-is_some c =
-    rw (
-      eq-eqb _ _ c.if-message-ne-WRITE_SIZE.false,
-      eq-eqb _ _ c.if-message-ne-IS_WRITE.false,
-      ← c.write_flaw.ensures,
-      ← c.if-is_some.ensures,
-    )
+pub be32-requires : goal.be32-requires
+be32-requires c = let long = write-long c.args.message.now (verdict-fine _ c.in_ok-check_message.ensures refl) in omega arith
 
 pub returns-then-count-be16 : goal.returns-then-count-be16
-unfolding write_message_refusal decode_write
+unfolding decode_write
 returns-then-count-be16 c =
     rw (
-      eq-eqb _ _ c.if-message-ne-WRITE_SIZE.false,
-      eq-eqb _ _ c.if-message-ne-IS_WRITE.false,
-      ← c.write_flaw.ensures,
-      ← c.if-is_some.ensures,
+      write-begins c.args.message.now c.args.count,
+      verdict-fine _ c.in_ok-check_message.ensures refl,
       ← c.be16.ensures,
       le-ltb _ _ c.if-count-be16.true,
     )
 
 pub returns-then-be32-eq0 : goal.returns-then-be32-eq0
-unfolding write_message_refusal decode_write
+unfolding decode_write
 returns-then-be32-eq0 c =
     rw (
-      eq-eqb _ _ c.if-message-ne-WRITE_SIZE.false,
-      eq-eqb _ _ c.if-message-ne-IS_WRITE.false,
-      ← c.write_flaw.ensures,
-      ← c.if-is_some.ensures,
+      write-begins c.args.message.now c.args.count,
+      verdict-fine _ c.in_ok-check_message.ensures refl,
       ← c.be16.ensures,
       lt-ltb _ _ c.if-count-be16.false,
       ← c.be32.ensures,
@@ -50,13 +42,11 @@ returns-then-be32-eq0 c =
     )
 
 pub returns : goal.returns
-unfolding write_message_refusal decode_write
+unfolding decode_write
 returns c =
     rw (
-      eq-eqb _ _ c.if-message-ne-WRITE_SIZE.false,
-      eq-eqb _ _ c.if-message-ne-IS_WRITE.false,
-      ← c.write_flaw.ensures,
-      ← c.if-is_some.ensures,
+      write-begins c.args.message.now c.args.count,
+      verdict-fine _ c.in_ok-check_message.ensures refl,
       ← c.be16.ensures,
       lt-ltb _ _ c.if-count-be16.false,
       ← c.be32.ensures,
