@@ -13,7 +13,7 @@ fn check_message(message: &[u8], count: usize) -> Result<(), Refusal>
     ensures { result ≡ verdict_of (write_message_refusal message.now count) }
 {
     checks::message::check_message::<WriteMessage>(message)?;
-    if count <= buffers::be16(message, layout::WRITE_SLOT) as usize {
+    if count <= usize::from(buffers::be16(message, layout::WRITE_SLOT)) {
         return Err(Refusal::NoSuchSlot);
     }
     if buffers::be32(message, layout::WRITE_SEQUENCE) == 0 {
