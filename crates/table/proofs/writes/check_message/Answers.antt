@@ -19,14 +19,15 @@ be16-requires c = let long = write-long c.args.message.now (verdict-fine _ c.in_
 pub be32-requires : goal.be32-requires
 be32-requires c = let long = write-long c.args.message.now (verdict-fine _ c.in_ok-check_message.ensures refl) in omega arith
 
-pub returns-then-count-be16 : goal.returns-then-count-be16
+pub returns-then-count-from : goal.returns-then-count-from
 unfolding decode_write
-returns-then-count-be16 c =
+returns-then-count-from c =
     rw (
       write-begins c.args.message.now c.args.count,
       verdict-fine _ c.in_ok-check_message.ensures refl,
       ← c.be16.ensures,
-      le-ltb _ _ c.if-count-be16.true,
+      ← c.from.ensures,
+      le-ltb _ _ c.if-count-from.true,
     )
 
 pub returns-then-be32-eq0 : goal.returns-then-be32-eq0
@@ -36,7 +37,8 @@ returns-then-be32-eq0 c =
       write-begins c.args.message.now c.args.count,
       verdict-fine _ c.in_ok-check_message.ensures refl,
       ← c.be16.ensures,
-      lt-ltb _ _ c.if-count-be16.false,
+      ← c.from.ensures,
+      lt-ltb _ _ c.if-count-from.false,
       ← c.be32.ensures,
       eq-eqb _ _ c.if-be32-eq0.true,
     )
@@ -48,7 +50,8 @@ returns c =
       write-begins c.args.message.now c.args.count,
       verdict-fine _ c.in_ok-check_message.ensures refl,
       ← c.be16.ensures,
-      lt-ltb _ _ c.if-count-be16.false,
+      ← c.from.ensures,
+      lt-ltb _ _ c.if-count-from.false,
       ← c.be32.ensures,
       ne_eqb _ _ c.if-be32-eq0.false,
     )
