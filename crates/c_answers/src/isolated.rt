@@ -31,6 +31,7 @@ fn isolated_numbers(fixed: usize, wildcards: usize) -> WgIsolated
     WgIsolated {
         refusal: 0,
         place: 0,
+        // Casts: no u32::from takes a usize.
         fixed: fixed as u32,
         wildcards: wildcards as u32,
     }

@@ -27,6 +27,7 @@ pub(crate) fn open_slots(keeper: &[u8]) -> Numbers
     let mut list = Numbers::new();
     for i in 0..keeper.len() / layout::SLOT_SIZE {
         if is_open(keeper, i) {
+            // A cast: no u16::from takes a usize.
             list.push(i as u16);
         }
     }

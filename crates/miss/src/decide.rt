@@ -38,6 +38,7 @@ impl<'a> Ruled<'a> {
         Decision {
             outcome: entry_outcome(self.keeper, i, action, number),
             write: Some(Write {
+                // A cast: no u16::from takes a usize.
                 slot: i as u16,
                 sequence,
                 pattern: isolated.pattern,

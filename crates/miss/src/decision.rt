@@ -40,6 +40,7 @@ pub(crate) fn write_again(keeper: &[u8], i: usize) -> Decision
     requires { (i < slot_count key_size keeper.now) × (slot_count key_size keeper.now ≤ most_slots) }
     ensures { (policy : List ℕ) → DecidedAs policy keeper.now (again i) result }
 {
+    // Casts of i below: no u16::from takes a usize.
     let slot = slot_at(keeper, i);
     Decision {
         outcome: Outcome {
@@ -64,6 +65,7 @@ pub(crate) fn entry_outcome(keeper: &[u8], i: usize, action: u16, rule: u16) -> 
     requires { (i < slot_count key_size keeper.now) × (slot_count key_size keeper.now ≤ most_slots) }
     ensures { result ≡ entry_outcome (slots key_size keeper.now) i action rule }
 {
+    // Casts of i below: no u16::from takes a usize.
     let old = slot_at(keeper, i);
     if old.sequence == 0 {
         return Outcome {

@@ -48,6 +48,7 @@ pub fn best_rule(policy: &[u8], key: &[u8]) -> Option<BestRule>
     }
     let Match { number, .. } = best?;
     Some(BestRule {
+        // A cast: no u16::from takes a usize.
         number: number as u16,
         action: records::rule::rule_action(policy, number),
     })

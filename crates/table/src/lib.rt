@@ -28,6 +28,7 @@ pub fn lookup(key: &[u8], table: &mut [u8], out: &mut [u8]) -> Result<Option<Hit
         return Ok(None);
     };
     let x = slots::hits::count_hit(table, i);
+    // A cast: no u16::from takes a usize.
     let slot = i as u16;
     put_report(
         out,
