@@ -23,7 +23,7 @@ fn refused_numbers(refusal: Refusal) -> WgIsolated
     }
 }
 
-// Of a rule that is isolated: its fixed bits, and its wildcard bits left.
+// Of a rule that is isolated: its fixed bits, and its wildcard bits left. No `From`, which could not ask that they are positions at most.
 fn isolated_numbers(fixed: usize, wildcards: usize) -> WgIsolated
     requires { (fixed ≤ positions) × (wildcards ≤ positions) }
     ensures { result ≡ isolated_counts fixed wildcards }

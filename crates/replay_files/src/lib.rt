@@ -74,7 +74,8 @@ fn print(rt: &(impl Print + Eprint), slots: &[u8], policy: &[u8], trace: &[u8]) 
     }
 }
 
-// Runs the program over the files of these names, and gives how it ends. A name is bytes, since one that is no text counts as a missing file.
+// Runs the program over the files of these names, and gives how it ends. A name is bytes: with `&str`, `run`
+// would take fewer, and one that is no text counts as a missing file.
 pub fn run(
     rt: &(impl Files + Print + Eprint),
     slots_name: &[u8],

@@ -14,7 +14,7 @@ pub(crate) fn find(key: &[u8], table: &[u8], out_len: usize) -> Result<Option<us
         return Err(Refusal::Ragged);
     }
     slot_count(table)?;
-    // Lent anew, as a part: a slice handed on as it came is copied whole first, and a lookup that hits would wait for that copy.
+    // Lent anew, as a part: a slice handed on as it came is copied whole first, and a lookup that hits took 28 ns in place of 17 (docs/DECISIONS.md).
     let all = &key[0..layout::KEY_SIZE];
     let Some(i) = slots::find::first_slot_for(table, all) else {
         return Ok(None);
