@@ -45,6 +45,7 @@ fn say_totals(rt: &impl Print, totals: Totals) -> io::Result<()> {
 }
 
 // Says what a run answers, and gives how many bytes of the output are its outcomes; those of more packets than a run has are none.
+// Beside `say_open` of test_ends: word, limit and size would be parameters, and nothing but the test would be shared.
 fn say_answer(rt: &impl Print, answer: Result<usize, Refusal>) -> Result<usize, Stop> {
     let n = answer?;
     print!(rt; " packets {n}")?;
