@@ -2,6 +2,13 @@
 use Rattle.miss.proofs.DecideLaws.{no-rule, rule-for, has-rule}
 use Rattle.miss.proofs.decide.decide_miss.Goals as goal
 
+pub invariant_of-miss : goal.invariant_of-miss
+invariant_of-miss c =
+    record {
+      ruled = rule-for _ _ c.args.keeper.now c.requires c.best_rule.ensures c.in-Some.is;
+      whole = c.requires.whole;
+    }
+
 pub returns-in-None : goal.returns-in-None
 returns-in-None c =
     no-rule _ _ _ c.requires c.best_rule.ensures c.in-None.is c.no_write.ensures
