@@ -1,5 +1,5 @@
 -- The table looks the packet's key up: a hit, whose report goes to the keeper, or a miss. Assumes nothing.
-use mathlib.Core.Path.{◌≡◌, refl, sym, ap, ◌∙◌}
+use mathlib.Core.Path.{◌≡◌, refl, sym, ◌∙◌}
 use mathlib.Core.List.{List}
 use Rattle.std.specs.Prelude.{Option, None, Some, Result, ⊤, Ok, option_map}
 use Prim.Native.Nat.{ℕ, ◌<◌}
