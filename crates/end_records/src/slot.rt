@@ -15,6 +15,7 @@ use ternary::Pattern;
 // A slot of either end, all bytes of it.
 #[derive(Clone, Copy)]
 pub struct Slot {
+    // 0 where the slot is empty, and no Option: such a slot may hold anything else, and `decode_slot` gives it back.
     pub sequence: u32,
     pub hits: u32,
     pub pattern: Pattern,

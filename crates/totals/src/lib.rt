@@ -31,7 +31,7 @@ fn one_of(outcome: u8, kind: u8) -> u64
     u64::from(outcome == kind)
 }
 
-// 1 where the outcome is a miss, else 0.
+// 1 where the outcome is a miss, else 0. It and the one above are functions, since their contracts bound what is added by 1.
 fn one_miss(outcome: u8) -> u64
     ensures { One (is_miss outcome) result }
 {
