@@ -7,7 +7,7 @@ ghost use Rattle.records.specs.Rules.{decode_rule, rule_count, rule_in, rules};
 ghost use Rattle.records.specs.Structs.{as_rule};
 
 use crate::layout;
-use crate::row::pattern_at;
+use crate::row::{pattern_at, rows_at};
 use ternary::Pattern;
 
 #[derive(Clone, Copy, Debug, PartialEq, Eq)]
@@ -44,13 +44,8 @@ pub fn rule_matches(policy: &[u8], i: usize, key: &[u8]) -> bool
     requires { (i < rule_count key_size policy.now) × (length key.now ≡ key_size) }
     ensures { result ≡ rule_matches positions (rules key_size policy.now) key.now i }
 {
-    let value = layout::RULE_SIZE * i + layout::RULE_VALUE;
-    let mask = layout::RULE_SIZE * i + layout::RULE_MASK;
-    ternary::matches_row(
-        &policy[value..value + layout::KEY_SIZE],
-        &policy[mask..mask + layout::KEY_SIZE],
-        key,
-    )
+    let (value, mask) = rows_at(policy, layout::RULE_SIZE * i + layout::RULE_VALUE);
+    ternary::matches_row(value, mask, key)
 }
 
 // The priority of the i-th rule, read where it lies. It and the action are two functions: what they share is one call.

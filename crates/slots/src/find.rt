@@ -7,6 +7,7 @@ ghost use Rattle.records.specs.SlotBuffers.{slot_count};
 
 use end_records::fields;
 use records::layout;
+use records::row::rows_at;
 
 // Whether the i-th slot of an end is not empty and takes the key.
 fn slot_holds(s: &[u8], i: usize, key: &[u8]) -> bool
@@ -16,13 +17,8 @@ fn slot_holds(s: &[u8], i: usize, key: &[u8]) -> bool
     if fields::sequence_at(s, i) == 0 {
         return false;
     }
-    let value = layout::SLOT_SIZE * i + layout::SLOT_VALUE;
-    let mask = layout::SLOT_SIZE * i + layout::SLOT_MASK;
-    ternary::matches_row(
-        &s[value..value + layout::KEY_SIZE],
-        &s[mask..mask + layout::KEY_SIZE],
-        key,
-    )
+    let (value, mask) = rows_at(s, layout::SLOT_SIZE * i + layout::SLOT_VALUE);
+    ternary::matches_row(value, mask, key)
 }
 
 // The lowest slot of an end that is not empty and takes the key.
