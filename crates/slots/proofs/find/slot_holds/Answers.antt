@@ -1,7 +1,7 @@
 -- `slots::find::slot_holds` meets its contract: the sequence and the rows are those of the slot. Assumes nothing.
+use mathlib.Core.Path.{◌≡◌, refl}
 use Prim.Native.Nat.{◌+◌, ◌*◌}
 use native.Mathlib.Omega.{arith}
-use native.Mathlib.Nat.{add-sub_cancel_left}
 use borrow.Author.Tests.{eq-eqb, ne_eqb}
 use Rattle.ends.specs.Ends.{holds}
 use Rattle.buffers.proofs.PartLaws.{part_length}
@@ -14,21 +14,24 @@ pub returns-then-sequence_at-eq0 : goal.returns-then-sequence_at-eq0
 unfolding holds
 returns-then-sequence_at-eq0 c = rw (← c.sequence_at.ensures, eq-eqb _ _ c.if-sequence_at-eq0.true)
 
+pub matches_row-requires : goal.matches_row-requires
+matches_row-requires c =
+    let a = c.args in
+    let at = slot_size key_size * a.i + slot_value in
+    let value = part_length key_size at a.s.now (omega arith) in
+    let mask = part_length key_size (at + key_size) a.s.now (omega arith) in
+    rw (c.rows_at.ensures.0, c.rows_at.ensures.1, value, mask) (refl, c.requires.1)
+
 pub returns : goal.returns
 unfolding holds
 returns c =
     let a = c.args in
-    let value = slot_size key_size * a.i + slot_value in
-    let mask = slot_size key_size * a.i + slot_mask key_size in
+    let at = slot_size key_size * a.i + slot_value in
+    let mask : at + key_size ≡ slot_size key_size * a.i + slot_mask key_size = omega arith in
     rw (
       ← c.sequence_at.ensures,
       ne_eqb _ _ c.if-sequence_at-eq0.false,
       value-in-place key_size a.s.now a.i c.requires.0,
       mask-in-place key_size a.s.now a.i c.requires.0,
     )
-    (rw (
-      add-sub_cancel_left value key_size,
-      add-sub_cancel_left mask key_size,
-      part_length key_size value a.s.now (omega arith),
-    )
-    at c.matches_row.ensures)
+    (rw (c.rows_at.ensures.0, c.rows_at.ensures.1, part_length key_size at a.s.now (omega arith), mask) at c.matches_row.ensures)
