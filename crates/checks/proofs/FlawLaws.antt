@@ -42,7 +42,8 @@ first-there c zero at i l ne h = absurd (omega arith)
 first-there c (suc n) at zero l ne h = rw (ne_eqb (get_or c at 0) 0 (simp unary_clauses at ne)) (simp unary_clauses refl)
 first-there c (suc n) at (suc i) l ne h =
     rw (eq-eqb (get_or c at 0) 0 (simp unary_clauses at (h 0 (omega arith))))
-    (let e : at + 1 + i ≡ at + suc i = omega arith in first-there c n (at + 1) i (omega arith) (λ z. ne (back c at i z)) (λ k m. next c at k (h (k + 1) (omega arith))) ∙ ap Some e)
+    (let e : at + 1 + i ≡ at + suc i = omega arith in
+    first-there c n (at + 1) i (omega arith) (λ z. ne (back c at i z)) (λ k m. next c at k (h (k + 1) (omega arith))) ∙ ap Some e)
 
 -- what the search of those bytes in order finds
 module _ (c : List ℕ) (n at : ℕ) (inside : at + n ≤ length c) where

@@ -74,7 +74,8 @@ module _ {g : List ℕ → Option Flaw} {size : ℕ} {bs : List ℕ} where
           }
 
       -- the search stops at it
-      pub flawed-here : (f : Flaw) → 0 < size → g x ≡ Some f → Some (record { place = i; flaw = f }) ≡ first_flawed (flaw_at g size bs) (length bs / size)
+      pub flawed-here : (f : Flaw) → 0 < size → g x ≡ Some f → Some (record { place = i; flaw = f })
+          ≡ first_flawed (flaw_at g size bs) (length bs / size)
       unfolding first_flawed
       flawed-here f some h =
           let there : flaw_at g size bs i ≡ Some f = ap g (sym is-chunk) ∙ h in

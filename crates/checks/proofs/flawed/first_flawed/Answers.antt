@@ -6,8 +6,12 @@ use Rattle.checks.proofs.flawed.first_flawed.Goals as goal
 pub loop-place-init : goal.loop-place-init
 loop-place-init g c =
     let gives = c.into_iter-place-iterator.ensures.into_iter_gives in
-    let from = c.enumerate-place-items.ensures in
-    (search rules, search rules, rw (gives, from.source) (c.chunks_exact.ensures.size ∙ c.SIZE.ensures), rw (gives, from.source, from.count, c.chunks_exact.ensures.rest) unflawed-none)
+    let from = c.enumerate-place-items.ensures in (
+      search rules,
+      search rules,
+      rw (gives, from.source) (c.chunks_exact.ensures.size ∙ c.SIZE.ensures),
+      rw (gives, from.source, from.count, c.chunks_exact.ensures.rest) unflawed-none,
+    )
 
 pub returns-in-Some-flaw : goal.returns-in-Some-flaw
 returns-in-Some-flaw g c =

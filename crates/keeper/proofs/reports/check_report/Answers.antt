@@ -22,7 +22,13 @@ pub returns-in_err-check_message : goal.returns-in_err-check_message
 unfolding report_answer report_refused
 returns-in_err-check_message c =
     let p = err_from_is_err_and c.from_residual-in_err-check_message.result c.from_residual-in_err-check_message.ensures.1 in
-    rw (p.1, p.2, (answer-given _ _ c.in_ok-count.ensures refl).0, bytes-message c.args.message.now, verdict-refused _ c.in_err-check_message.ensures refl)
+    rw (
+      p.1,
+      p.2,
+      (answer-given _ _ c.in_ok-count.ensures refl).0,
+      bytes-message c.args.message.now,
+      verdict-refused _ c.in_err-check_message.ensures refl,
+    )
 
 pub returns : goal.returns
 unfolding report_answer report_refused
