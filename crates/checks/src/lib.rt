@@ -4,5 +4,6 @@
 pub mod buffer;
 pub mod flaw;
 pub mod flawed;
+pub mod key;
 pub mod message;
 pub mod refusal;

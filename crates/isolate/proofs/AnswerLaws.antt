@@ -36,9 +36,9 @@ module _ (policy key : List ℕ) (number : ℕ) where
   said-policy r e = rw e
 
   module _ (fine : policy_refusal policy ≡ None) where
-    pub said-key : length key ≢ key_size → says (Err Ragged)
-    unfolding isolate_refusal key_refusal
-    said-key h = rw (fine, ne_eqb _ _ h)
+    pub said-key : {r : Refusal} → key_refusal key ≡ Some r → says (Err r)
+    unfolding isolate_refusal
+    said-key h = rw (fine, h)
 
     module _ (long : length key ≡ key_size) where
       pub said-number : rule_count key_size policy ≤ number → says (Err NoSuchRule)

@@ -9,17 +9,15 @@ ghost use Rattle.checks.specs.Refusals.{verdict_of};
 ghost use Rattle.isolate.specs.Answers.{isolate_refusal, isolate_answer};
 
 use crate::rounds::{Isolated, isolate_best};
+use checks::key::check_key;
 use checks::refusal::Refusal;
-use records::layout;
 
 // Whether the rule is isolated for the key: refusals 1, 2 and 3 of the policy, then 1 of the key, 6 and 7.
 fn check_isolate(policy: &[u8], key: &[u8], number: usize) -> Result<(), Refusal>
     ensures { result ≡ verdict_of (isolate_refusal policy.now key.now number) }
 {
     let count = policy::check(policy)?;
-    if key.len() != layout::KEY_SIZE {
-        return Err(Refusal::Ragged);
-    }
+    check_key(key)?;
     if number >= count {
         return Err(Refusal::NoSuchRule);
     }

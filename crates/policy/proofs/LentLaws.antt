@@ -27,14 +27,14 @@ module _ (policy key end : List ℕ) where
     passed : policy_refusal policy ≡ None
     passed = check-passed policy n (sym t ∙ e)
 
-    pub bad-key : length key ≢ key_size → lent_refusal policy key end ≡ Some Ragged
-    unfolding lent_refusal best_refusal key_refusal
-    bad-key k = rw (passed, ne_eqb (length key) key_size k)
+    pub bad-key : {r : Refusal} → key_refusal key ≡ Some r → lent_refusal policy key end ≡ Some r
+    unfolding lent_refusal best_refusal
+    bad-key bad = rw (passed, bad)
 
     -- the end's refusal is then that of the whole
-    pub rest-end : length key ≡ key_size → lent_refusal policy key end ≡ slots_refusal end
-    unfolding lent_refusal best_refusal key_refusal
-    rest-end k = rw (passed, eq-eqb (length key) key_size k)
+    pub rest-end : key_refusal key ≡ None → lent_refusal policy key end ≡ slots_refusal end
+    unfolding lent_refusal best_refusal
+    rest-end fine = rw (passed, fine)
 
   pub parts-fine : lent_refusal policy key end ≡ None → FineLent policy key end
   unfolding lent_refusal best_refusal

@@ -11,8 +11,8 @@ ghost use Rattle.policy.specs.BestAnswers.{best_answer};
 
 use crate::search::{BestRule, best_rule};
 use checks::flawed::{Rule, record_count};
+use checks::key::check_key;
 use checks::refusal::Refusal;
-use records::layout;
 
 // How many rules an accepted policy has: refusals 1, 2 and 3, the last with the place of the first flawed record. It changes nothing.
 #[tactic(auto, unfolding(crate::specs::Answers::check_answer, crate::specs::Refusals::policy_refusal))]
@@ -27,8 +27,6 @@ pub fn best(policy: &[u8], key: &[u8]) -> Result<Option<BestRule>, Refusal>
     ensures { result ≡ best_answer policy.now key.now }
 {
     crate::check(policy)?;
-    if key.len() != layout::KEY_SIZE {
-        return Err(Refusal::Ragged);
-    }
+    check_key(key)?;
     Ok(best_rule(policy, key))
 }

@@ -3,6 +3,7 @@ ghost use Rattle.std.specs.Prelude.{◌≡◌};
 ghost use Rattle.table.specs.Lookups.{find_answer};
 
 use checks::buffer::slot_count;
+use checks::key::check_key;
 use checks::refusal::Refusal;
 use records::layout;
 
@@ -10,9 +11,7 @@ use records::layout;
 pub(crate) fn find(key: &[u8], table: &[u8], out_len: usize) -> Result<Option<usize>, Refusal>
     ensures { result ≡ find_answer key.now table.now out_len }
 {
-    if key.len() != layout::KEY_SIZE {
-        return Err(Refusal::Ragged);
-    }
+    check_key(key)?;
     slot_count(table)?;
     // Lent anew, as a part: a slice handed on as it came is copied whole first, and a lookup that hits took 28 ns in place of 17 (docs/DECISIONS.md).
     let all = &key[0..layout::KEY_SIZE];
