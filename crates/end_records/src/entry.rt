@@ -8,7 +8,7 @@ ghost use Rattle.records.specs.Layout.{slot_size};
 use records::layout;
 use ternary::Pattern;
 
-// What follows the rows, byte by byte: `concat` of the numbers' arrays needs a heap.
+// What follows the rows, byte by byte: `concat` of the numbers' arrays needs a heap, and calls of `put_be16` and its like are no plainer.
 pub(crate) fn tail_bytes(first: u16, second: u16, third: u8, last: u8) -> [u8; layout::TAIL_SIZE]
     ensures { result ≡ to_be 2 first ++ (to_be 2 second ++ (third ∷ last ∷ [])) }
 {

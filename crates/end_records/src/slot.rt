@@ -51,7 +51,7 @@ pub fn slot_at(s: &[u8], i: usize) -> Slot
     slot_of(&s[at..at + layout::SLOT_SIZE])
 }
 
-// The eight bytes of two numbers, one by one: `concat` of their arrays needs a heap.
+// The eight bytes of two numbers, one by one: `concat` of their arrays needs a heap, and calls of `put_be16` and its like are no plainer.
 fn head_bytes(sequence: u32, hits: u32) -> [u8; layout::SLOT_VALUE]
     ensures { result ≡ to_be 4 sequence ++ to_be 4 hits }
 {

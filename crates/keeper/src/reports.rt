@@ -14,6 +14,7 @@ use checks::refusal::Refusal;
 use end_records::report::Report;
 
 // Whether the report is one of a slot of this keeper, which has `count` slots, and of an entry that it wrote: refusals 9, 10 and 11.
+// The count comes beside the keeper: the caller has it from `slot_count`, and to divide again is no plainer.
 fn check_slot(keeper: &[u8], count: usize, x: Report) -> Result<(), Refusal>
     requires { count ≡ slot_count key_size keeper.now }
     ensures { result ≡ verdict_of (numbered (report_refusal (slots key_size keeper.now) (as_report x))) }

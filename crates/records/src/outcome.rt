@@ -50,7 +50,7 @@ pub fn outcome_of(c: &[u8]) -> Outcome
     }
 }
 
-// The bytes of an outcome, one by one: `concat` of the numbers' arrays needs a heap.
+// The bytes of an outcome, one by one: `concat` of the numbers' arrays needs a heap, and calls of `put_be16` and its like are no plainer.
 #[tactic(auto, unfolding(crate::specs::Outcomes::encode_outcome))]
 fn outcome_bytes(x: Outcome) -> [u8; layout::OUTCOME_SIZE]
     ensures { result ≡ encode_outcome (as_outcome x) }

@@ -1,4 +1,5 @@
-// One packet of a run: each message is delivered at once.
+// One packet of a run: each message is delivered at once. Table and keeper go apart through a run, as `run` is lent them: a struct of the two would
+// be taken apart again at every call of either end.
 ghost use Rattle.run.specs.Packets.{FinePacket, PacketDone, missed_outcome, missed_ends, packet_outcome, packet_ends};
 
 use miss::decision::Decision;

@@ -33,6 +33,7 @@ fn check_ends(table: &[u8], keeper: &[u8]) -> Result<(), Refusal>
 }
 
 // Whether a run is refused, with an output of `out_len` bytes: 1, 2 and 3 of the policy, those of the trace and of the two ends, 13, 5.
+// The length alone: an output is lent to write only once nothing is refused.
 pub(crate) fn check_run(
     policy: &[u8],
     trace: &[u8],

@@ -23,6 +23,7 @@ fn check_message(message: &[u8], count: usize) -> Result<(), Refusal>
 }
 
 // Whether a write is taken, with an output of `out_len` bytes: refusal 4 of the table, those of the message, then 5. It changes nothing.
+// The length alone: an output is lent to write only once nothing is refused.
 pub(crate) fn check_write(table: &[u8], message: &[u8], out_len: usize) -> Result<(), Refusal>
     ensures { result ≡ verdict_of (write_call_refusal table.now message.now out_len) }
 {

@@ -22,6 +22,7 @@ pub fn first_stray(value: &[u8], mask: &[u8]) -> Option<usize>
 pub fn exact_bits(mask: [u8; KEY_SIZE]) -> usize
     ensures { result ≡ exact_bits positions mask }
 {
+    // A cast: no usize::from takes a u32.
     mask.iter().map(|byte| byte.count_ones() as usize).sum()
 }
 

@@ -26,6 +26,7 @@ pub fn bytes_at<const N: usize>(s: &[u8], at: usize) -> [u8; N]
 pub fn number(s: &[u8], at: usize) -> usize
     ensures { result ≡ number_at at s.now }
 {
+    // A cast: no usize::from takes a u32.
     u32::from_be_bytes(bytes_at(s, at)) as usize
 }
 

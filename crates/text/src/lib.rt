@@ -69,6 +69,7 @@ impl Line {
         ensures room { length self.new ≤ length self.old + word_size }
     {
         match n {
+            // 65,535 is a dash too: `or_dash` says so of every number.
             Some(n) if n != kinds::NOTHING => self.push_number(u64::from(n), after),
             _ => {
                 self.bytes.push(b'-');

@@ -24,6 +24,9 @@ returns-in_err-slot_count c =
     let p = err_from_is_err_and c.from_residual-in_err-slot_count.result c.from_residual-in_err-slot_count.ensures.1 in
     rw (p.1, p.2, verdict-fine _ c.in_ok-check_key.ensures refl, answer-refused _ _ c.in_err-slot_count.ensures refl)
 
+pub slice_bounds-all-end : goal.slice_bounds-all-end
+slice_bounds-all-end c = let long = key-accepted _ (verdict-fine _ c.in_ok-check_key.ensures refl) in omega (arith, long)
+
 -- the part of the key that is lent is all of it
 all : (key : List ℕ) → length key ≡ key_size → take key_size key ≡ key
 all key long = take_all key_size key (omega arith)
