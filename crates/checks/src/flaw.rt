@@ -5,6 +5,7 @@ ghost use Rattle.records.specs.Layout.{rule_size, trace_size, write_size, report
 ghost use Rattle.checks.specs.Flaws.{flaw_of, first_nonzero, offsets, stray_byte_in, rule_flaw, trace_flaw, write_flaw, report_flaw};
 
 use records::layout;
+use records::row::rows_at;
 
 // What is wrong with a record, with the lowest byte of it that is: a spare byte is told before a value bit.
 #[derive(Clone, Copy, Debug, PartialEq, Eq)]
@@ -13,16 +14,13 @@ pub enum Flaw {
     Stray(usize),
 }
 
-// The value bits of a record under its wildcards, as a flaw: rows at `value` and at `mask`.
-fn stray_flaw(r: &[u8], value: usize, mask: usize) -> Option<Flaw>
-    requires { (value + key_size ≤ length r.now) × (mask + key_size ≤ length r.now) }
-    ensures { result ≡ flaw_of None (stray_byte_in key_size value mask r.now) }
+// The value bits of a record under its wildcards, as a flaw: of the pattern at `at`.
+fn stray_flaw(r: &[u8], at: usize) -> Option<Flaw>
+    requires { at + (key_size + key_size) ≤ length r.now }
+    ensures { result ≡ flaw_of None (stray_byte_in key_size at (at + key_size) r.now) }
 {
-    ternary::bits::first_stray(
-        &r[value..value + layout::KEY_SIZE],
-        &r[mask..mask + layout::KEY_SIZE],
-    )
-    .map(|i| Flaw::Stray(value + i))
+    let (value, mask) = rows_at(r, at);
+    ternary::bits::first_stray(value, mask).map(|i| Flaw::Stray(at + i))
 }
 
 // The bytes from `at` up to `end`, which must be zero, as a flaw: the first that is not.
@@ -42,7 +40,7 @@ pub(crate) fn rule_flaw(r: &[u8]) -> Option<Flaw>
     ensures { result ≡ rule_flaw key_size r.now }
 {
     let spare = spare_flaw(r, layout::RULE_SPARE, layout::RULE_SIZE);
-    spare.or(stray_flaw(r, layout::RULE_VALUE, layout::RULE_MASK))
+    spare.or(stray_flaw(r, layout::RULE_VALUE))
 }
 
 // The flaw of a trace's record.
@@ -60,7 +58,7 @@ pub fn write_flaw(r: &[u8]) -> Option<Flaw>
 {
     let zero = spare_flaw(r, layout::WRITE_ZERO, layout::WRITE_SLOT);
     let spare = spare_flaw(r, layout::WRITE_SPARE, layout::WRITE_SIZE);
-    let stray = stray_flaw(r, layout::WRITE_VALUE, layout::WRITE_MASK);
+    let stray = stray_flaw(r, layout::WRITE_VALUE);
     zero.or(spare.or(stray))
 }
 
