@@ -11,7 +11,8 @@ use crate::flaw::{Flaw, report_flaw, write_flaw};
 use crate::refusal::Refusal;
 use records::layout;
 
-// A kind of message: its size, its first byte, and what is wrong with one.
+// A kind of message: its size, its first byte, and what is wrong with one. Beside `Record`, which has a largest number and no first byte: in one
+// trait each would leave a constant unused.
 pub trait Message {
     ghost SIZE: { ℕ };
 

@@ -1,13 +1,8 @@
 -- What the tests of the parts say, and what parts are that no test refuses. Assumes nothing.
 use mathlib.Core.Path.{◌≡◌, sym, ◌∙◌}
 use mathlib.Core.List.{List}
-use mathlib.Core.Logic.{◌≢◌}
 use Rattle.std.specs.Prelude.{None, Some, Result, Ok, Err}
 use Prim.Native.Nat.{ℕ}
-use lib.ListN.{length}
-use borrow.Author.Tests.{eq-eqb, ne_eqb}
-use Rattle.checks.specs.declared.refusal.Refusal.TheVariants.{Ragged}
-use Rattle.ternary.specs.Sizes.{key_size}
 use Rattle.checks.specs.Keys.{key_refusal}
 use Rattle.checks.specs.declared.refusal.Refusal.{Refusal}
 use Rattle.checks.proofs.RefusalLaws.{none_first, key-accepted}

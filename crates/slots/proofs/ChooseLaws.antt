@@ -1,20 +1,17 @@
 -- What a miss asks of the keeper's slots: the loops that find it. Assumes nothing.
-use mathlib.Core.Path.{◌≡◌, refl, sym, ap, ◌∙◌}
+use mathlib.Core.Path.{◌≡◌, refl, sym, ◌∙◌}
 use mathlib.Core.Bool.{Bool, true, false}
 use mathlib.Core.List.{List}
-use mathlib.Core.Logic.{◌≢◌}
 use Rattle.std.specs.Prelude.{Some, Option, None}
-use Prim.Native.Nat.{ℕ, ◌+◌, ◌≤◌, ◌<◌, max}
+use Prim.Native.Nat.{ℕ, ◌+◌, ◌<◌, max}
 use native.Mathlib.Omega.{arith}
 use native.Mathlib.Numerals.{add-one}
 use lib.ListN.{length, drop}
 use lib.Seq.{drop-cons, drop-length}
-use borrow.Author.Tests.{eq-eqb, ne_eqb}
 use Rattle.model.specs.Below.{ahead, foremost}
 use Rattle.ends.specs.Records.{Slot, slot_at, cleared}
-use Rattle.ends.specs.Ends.{is_empty, largest, given_up_before, given_up, slot_for_entry}
-use Rattle.model.proofs.BelowLaws.{Passed, passed_none, passed-more}
-use Rattle.model.proofs.OrderLaws.{first_found, first-missed, foremost-next}
+use Rattle.ends.specs.Ends.{largest, given_up_before, given_up, slot_for_entry}
+use Rattle.model.proofs.OrderLaws.{foremost-next}
 use Rattle.ternary.specs.Sizes.{key_size}
 use Rattle.end_records.specs.Slots.{slots}
 use Rattle.records.specs.SlotBuffers.{slot_count}

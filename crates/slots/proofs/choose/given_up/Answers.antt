@@ -1,5 +1,4 @@
 -- `slots::choose::given_up` meets its contract: of the slots below i the one that is given up first is kept. Assumes nothing.
-use borrow.Author.Rules.{rules}
 use native.Mathlib.Omega.{arith}
 use Rattle.slots.proofs.ChooseLaws.{first_slot, first-kept, first_taken, first_done}
 use Rattle.slots.proofs.choose.given_up.Goals as goal

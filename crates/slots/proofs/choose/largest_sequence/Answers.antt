@@ -1,5 +1,4 @@
 -- `slots::choose::largest_sequence` meets its contract: the largest of the first i sequences is kept. Assumes nothing.
-use borrow.Author.Rules.{rules}
 use native.Mathlib.Nat.{le_antisymm}
 use Rattle.slots.proofs.ChooseLaws.{most-none, most-more, most-done}
 use Rattle.slots.proofs.choose.largest_sequence.Goals as goal
