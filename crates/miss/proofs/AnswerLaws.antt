@@ -39,7 +39,8 @@ module _ (policy key keeper : List ℕ) where
 
 -- ---- so it is the miss's answer
 
-module _ (policy keeper out : List ℕ) {d : Decision} {r : Result OutcomeStruct Refusal} {keeper' out' : List ℕ} (c : CarriedOut d keeper out r keeper' out') where
+module _ (policy keeper out : List ℕ) {d : Decision} {r : Result OutcomeStruct Refusal} {keeper' out' : List ℕ}
+    (c : CarriedOut d keeper out r keeper' out') where
   abbrev k : List Slot
   k = slots key_size keeper
 
@@ -72,7 +73,7 @@ module _ (policy keeper out : List ℕ) {d : Decision} {r : Result OutcomeStruct
   missed-as (used_up rule) is = missed-by (used_up rule) is refl refl
 
 -- a call whose parts are fine is the call without its checks
-pub missed : (policy key keeper out : List ℕ) {a : Result ⊤ Refusal} {r : Result OutcomeStruct Refusal} {keeper' out' : List ℕ} → a ≡ verdict_of (lent_refusal policy key keeper)
-    → a ≡ (Ok tt) → OnMiss policy key keeper out r keeper' out' → Missed policy key keeper out r keeper' out'
+pub missed : (policy key keeper out : List ℕ) {a : Result ⊤ Refusal} {r : Result OutcomeStruct Refusal} {keeper' out' : List ℕ}
+    → a ≡ verdict_of (lent_refusal policy key keeper) → a ≡ (Ok tt) → OnMiss policy key keeper out r keeper' out' → Missed policy key keeper out r keeper' out'
 unfolding miss_refused
 missed policy key keeper out e t is = rw (verdict-fine (lent_refusal policy key keeper) e t) is

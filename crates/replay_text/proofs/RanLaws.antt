@@ -22,7 +22,8 @@ module _ {a : Result ℕ Refusal} (t : Totals) (records : List ℕ) {out : List 
   packets-put e p = rw e p
 
 module _ (slots policy trace : List ℕ) where
-  refused-text : {r : Refusal} → file_refusal slots policy trace ≡ Some r → refusal_line (number_of r) (place_of r) ≡ text_of_replay slots policy trace
+  refused-text : {r : Refusal} → file_refusal slots policy trace ≡ Some r
+      → refusal_line (number_of r) (place_of r) ≡ text_of_replay slots policy trace
   unfolding text_of_replay
   refused-text e = rw e
 

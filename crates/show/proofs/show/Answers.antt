@@ -8,18 +8,26 @@ use Rattle.show.proofs.show.Goals as goal
 
 -- the slot is one of the table, the rule one of the policy
 pub slice_bounds-result-end : goal.slice_bounds-result-end
-slice_bounds-result-end c = omega (arith, c.from-at.ensures, table_below _ _ _ _ (sym (rw (c.in-Ok-Some-Table.field-0-is, c.in-Ok-Some-Table.field-0-0-is) at c.in-Ok-Some-Table.ensures)))
+slice_bounds-result-end c =
+    let p = c.in-Ok-Some-Table in
+    omega (arith, c.from-at.ensures, table_below _ _ _ _ (sym (rw (p.field-0-is, p.field-0-0-is) at p.ensures)))
 
 pub slice_bounds-result-end-in-Ok-Some-Policy : goal.slice_bounds-result-end-in-Ok-Some-Policy
-slice_bounds-result-end-in-Ok-Some-Policy c = omega (arith, c.from-at-in-Ok-Some-Policy.ensures, policy-below _ _ _ _ (sym (rw (c.in-Ok-Some-Policy.field-0-is, c.in-Ok-Some-Policy.field-0-0-is) at c.in-Ok-Some-Policy.ensures)))
+slice_bounds-result-end-in-Ok-Some-Policy c =
+    let p = c.in-Ok-Some-Policy in
+    omega (arith, c.from-at-in-Ok-Some-Policy.ensures, policy-below _ _ _ _ (sym (rw (p.field-0-is, p.field-0-0-is) at p.ensures)))
 
 pub returns-in-Ok-Some-Table : goal.returns-in-Ok-Some-Table
 unfolding shown_part
-returns-in-Ok-Some-Table c = rw (← (rw (c.in-Ok-Some-Table.field-0-is, c.in-Ok-Some-Table.field-0-0-is) at c.in-Ok-Some-Table.ensures), c.from-at.ensures, add-sub_cancel_left)
+returns-in-Ok-Some-Table c =
+    let p = c.in-Ok-Some-Table in
+    rw (← (rw (p.field-0-is, p.field-0-0-is) at p.ensures), c.from-at.ensures, add-sub_cancel_left)
 
 pub returns-in-Ok-Some-Policy : goal.returns-in-Ok-Some-Policy
 unfolding shown_part
-returns-in-Ok-Some-Policy c = rw (← (rw (c.in-Ok-Some-Policy.field-0-is, c.in-Ok-Some-Policy.field-0-0-is) at c.in-Ok-Some-Policy.ensures), c.from-at-in-Ok-Some-Policy.ensures, add-sub_cancel_left)
+returns-in-Ok-Some-Policy c =
+    let p = c.in-Ok-Some-Policy in
+    rw (← (rw (p.field-0-is, p.field-0-0-is) at p.ensures), c.from-at-in-Ok-Some-Policy.ensures, add-sub_cancel_left)
 
 pub returns-in-Ok-None : goal.returns-in-Ok-None
 unfolding shown_part

@@ -1,4 +1,4 @@
--- `run::packet::missed` meets its contract: a decision without a write changes nothing; else its entry is placed and its write sent. Assumes nothing.
+-- `run::packet::missed` meets its contract: without a write nothing changes, else its entry is placed and it is sent. Assumes nothing.
 use Rattle.miss.proofs.OutcomeLaws.{given-told}
 use Rattle.run.proofs.MissLaws.{missed-sent}
 use Rattle.run.proofs.packet.missed.Goals as goal

@@ -9,14 +9,16 @@ isolate_best-isolated-requires c = rw c.from.ensures c.args.self.now.ruled.ready
 
 pub entry_outcome-requires : goal.entry_outcome-requires
 entry_outcome-requires c =
-    (slot-inside c.args.self.now.policy.now c.args.self.now.key.now _ c.args.self.now.whole c.slot_for_entry-i.ensures, c.args.self.now.whole.few-there)
+    let a = c.args.self.now in
+    (slot-inside a.policy.now a.key.now _ a.whole c.slot_for_entry-i.ensures, a.whole.few-there)
 
 pub overflow_cast-result : goal.overflow_cast-result
 overflow_cast-result c =
     let a = c.args.self.now in
-    omega (arith, slot-inside a.policy.now a.key.now a.keeper.now c.args.self.now.whole c.slot_for_entry-i.ensures, c.args.self.now.whole.few-there)
+    omega (arith, slot-inside a.policy.now a.key.now a.keeper.now a.whole c.slot_for_entry-i.ensures, a.whole.few-there)
 
 pub returns : goal.returns
 returns c =
-    entry-decided _ _ _ c.args.self.now.ruled c.args.self.now.whole c.requires c.from.ensures c.isolate_best-isolated.ensures c.slot_for_entry-i.ensures
+    let a = c.args.self.now in
+    entry-decided _ _ _ a.ruled a.whole c.requires c.from.ensures c.isolate_best-isolated.ensures c.slot_for_entry-i.ensures
     c.entry_outcome.ensures refl refl
