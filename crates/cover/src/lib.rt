@@ -18,5 +18,5 @@ pub fn cover(policy: &[u8], number: usize, out: &mut [u8]) -> Result<usize, Refu
         return Err(Refusal::NoSuchRule);
     }
     let list = dependents::dependents_of(policy, number);
-    lists::list_answer(&list, out)
+    lists::list_answer(list.as_slice(), out)
 }

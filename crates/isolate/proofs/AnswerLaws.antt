@@ -9,7 +9,7 @@ use lib.Dec.{ltb}
 use lib.ListN.{length}
 use borrow.Author.Tests.{lt-ltb, le-ltb, ltb-true, eqb-true, eq-eqb, ne_eqb}
 use Rattle.model.specs.Policy.{best}
-use Rattle.checks.specs.declared.refusal.Refusal.TheVariants.{NoSuchRule, NotBest, Ragged}
+use Rattle.checks.specs.declared.refusal.Refusal.TheVariants.{NoSuchRule, NotBest}
 use Rattle.model.proofs.Cases.{clash}
 use Rattle.ternary.specs.Sizes.{key_size, positions}
 use Rattle.records.specs.Rules.{rule_count, rules}

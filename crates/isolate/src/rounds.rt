@@ -61,7 +61,7 @@ impl<'a> Asked<'a> {
         let column = self.column_of(b, standing);
         let mut leader = before;
         for q in 0..8 {
-            let count = marked(&column, q);
+            let count = marked(column.as_slice(), q);
             if leader.count < count {
                 leader = Leader {
                     position: b * 8 + q,

@@ -5,13 +5,13 @@ ghost use Rattle.ternary.specs.Sizes.{key_size, positions};
 ghost use Rattle.records.specs.Rules.{rule_count};
 ghost use Rattle.isolate.specs.Columns.{bit_set, Separating, Marks};
 
-use arrayvec::ArrayVec;
 use lists::Numbers;
+use lists::list_of::ListOf;
 use records::layout;
 use records::layout::{KEY_SIZE, MOST_RULES};
 
 // For each of the standing that a byte of the key separates, the bits at which it does.
-pub type Column = ArrayVec<u8, MOST_RULES>;
+pub type Column = ListOf<u8, MOST_RULES>;
 
 // The rule that is isolated, and the key that it is isolated for.
 #[derive(Clone, Copy)]

@@ -26,5 +26,5 @@ pub fn open_list(keeper: &[u8], out: &mut [u8]) -> Result<usize, Refusal>
 {
     slot_count(keeper)?;
     let list = open_slots::open_slots(keeper);
-    lists::list_answer(&list, out)
+    lists::list_answer(list.as_slice(), out)
 }

@@ -1,17 +1,19 @@
 // Lists of numbers of rules or of slots, and their bytes in an output.
 #![tactic(auto)]
 
+pub mod list_of;
+
 ghost use Rattle.std.specs.Prelude.{◌≡◌, ◌*◌, ◌≤◌, length};
 ghost use Rattle.buffers.specs.Parts.{splice};
 ghost use Rattle.lists.specs.Written.{number_bytes};
 ghost use Rattle.lists.specs.Answers.{Answered};
 
-use arrayvec::ArrayVec;
+use crate::list_of::ListOf;
 use checks::refusal::Refusal;
 use records::layout::MOST_RULES;
 
-// A list of numbers of rules or of slots, which lie in the value itself.
-pub type Numbers = ArrayVec<u16, MOST_RULES>;
+// A list of numbers of rules or of slots.
+pub type Numbers = ListOf<u16, MOST_RULES>;
 
 // Writes the list to the start of `out`, two bytes a number; every other byte stays.
 fn put_numbers(list: &[u16], out: &mut [u8])

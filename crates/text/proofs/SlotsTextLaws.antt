@@ -6,13 +6,13 @@ use Prim.Native.Nat.{ℕ, zero, suc, ◌+◌, ◌-◌, ◌^◌, ◌≤◌, ◌<�
 use native.Mathlib.Omega.{arith}
 use borrow.Author.Tests.{leb-true, le-leb}
 use lib.Dec.{leb, eqb}
-use lib.ListN.{length, take, drop, get_or}
+use lib.ListN.{length, take, drop, get_or, length-append}
 use lib.Pointwise.{pointwise}
 use Rattle.std.proofs.Common.{Option, None, Some, Result, Ok, Err, Bor, slice_get}
 use Rattle.std.proofs.lemmas.Option.{unwrap_or-slice_get}
 use Rattle.std.specs.Result.{result_ok}
 use Rattle.std.specs.Option.{MatchOption, option_copied, unwrap_or}
-use Rattle.std.proofs.lemmas.Fmt.{parse-decimal, decimal_is_IsNumeral, decimal_injective, decimal-digits_value, first_decimal, IsAscii-decimal}
+use Rattle.std.proofs.lemmas.Fmt.{length-decimal-le, parse-decimal, decimal_is_IsNumeral, decimal_injective, decimal-digits_value, first_decimal, IsAscii-decimal}
 use Rattle.std.proofs.lemmas.List.{append_cancel_right}
 use Rattle.std.proofs.lemmas.Bool.Decides.{Decides-eqb}
 use Rattle.std.proofs.lemmas.Slice.Eq.{bytes_eq-Decides, strip_suffix_is}
@@ -93,6 +93,15 @@ module _ (text : List ℕ) where
 
   pub slots-few : (n : ℕ) → slots_in text ≡ Some n → n ≤ most_slots
   slots-few n e = (slots-said n e).few
+
+  -- a text of more bytes than the largest number's line
+  pub too-long : 4 < length text → None ≡ slots_in text
+  too-long l = none-said (λ n s.
+      let small : n < 2 ^ 64 = omega (arith, s.few) in
+      let digits : length (printed n) ≤ 3 = length-decimal-le 3 n (omega arith) (omega (arith, s.few)) small in
+      let same : length (decimal n) ≡ length (printed n) = ap length (decimal_is_printed n small) in
+      let long : length text ≡ length (decimal n) + 1 = ap length s.line ∙ length-append (decimal n) (newline ∷ []) in
+      omega arith)
 
 -- ---- what is read, test by test
 

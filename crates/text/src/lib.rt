@@ -3,14 +3,14 @@
 
 pub mod slots_text;
 
-ghost use Rattle.std.specs.Prelude.{◌≡◌, ℕ, List, [], ◌∷◌, ◌++◌, ◌+◌, ◌≤◌, length};
+ghost use Rattle.std.specs.Prelude.{◌≡◌, [], ◌∷◌, ◌++◌, ◌+◌, ◌≤◌, length};
 ghost use Rattle.records.specs.Outcomes.{or_nothing};
 ghost use Rattle.text.specs.Decimal.{decimal};
 ghost use Rattle.text.specs.Line.{word_size, line_size};
 ghost use Rattle.text.specs.Words.{or_dash};
 
-use arrayvec::ArrayVec;
 use itoa::Buffer;
+use lists::list_of::ListOf;
 use records::kinds;
 use std::marker::Model;
 
@@ -21,41 +21,46 @@ const MOST_DIGITS: usize = 20;
 pub const LINE_SIZE: usize = 5 * (MOST_DIGITS + 1);
 
 // A line that the program prints. A clause sees its bytes.
-#[derive(Drop)]
+#[derive(Clone, Copy)]
 pub struct Line {
-    bytes: ArrayVec<u8, LINE_SIZE>,
+    bytes: ListOf<u8, LINE_SIZE>,
 }
 
 impl Model for Line {
-    ghost Value = { List ℕ };
+    ghost use Rattle.std.specs.Prelude.{ℕ};
+    ghost use Rattle.lists.specs.ListOf.{ListOf as Items};
 
-    ghost view = { λ line. line.bytes.items };
+    ghost Value = { Items ℕ };
+
+    ghost view = { λ line. line.bytes };
+
+    ghost inverse = { λ bytes. record { bytes = bytes } };
 }
 
 impl Line {
     // The line that says nothing.
     pub fn new() -> Self
-        ensures { result ≡ [] }
+        ensures { result.items ≡ [] }
     {
         Line {
-            bytes: ArrayVec::new(),
+            bytes: ListOf::new(),
         }
     }
 
     // Puts a text after what the line says.
     pub fn push_text(&mut self, text: &[u8])
-        requires { length self.old + length text.now ≤ line_size }
-        ensures { self.new ≡ self.old ++ text.now }
+        requires { length self.old.items + length text.now ≤ line_size }
+        ensures { self.new.items ≡ self.old.items ++ text.now }
     {
-        self.bytes.try_extend_from_slice(text).unwrap();
+        self.bytes.extend(text);
     }
 
     // Puts a number and a byte after what the line says.
     #[tactic(auto, using(crate::proofs::DecimalLaws::decimal_is_printed, std::proofs::Common::append_assoc))]
     pub fn push_number(&mut self, n: u64, after: u8)
-        requires { length self.old + word_size ≤ line_size }
-        ensures text { self.new ≡ self.old ++ (decimal n ++ after ∷ []) }
-        ensures room { length self.new ≤ length self.old + word_size }
+        requires { length self.old.items + word_size ≤ line_size }
+        ensures text { self.new.items ≡ self.old.items ++ (decimal n ++ after ∷ []) }
+        ensures room { length self.new.items ≤ length self.old.items + word_size }
     {
         self.push_text(Buffer::new().format(n).as_bytes());
         self.bytes.push(after);
@@ -64,9 +69,9 @@ impl Line {
     // The same of a rule or a slot; a dash where there is none.
     #[tactic(auto, using(std::proofs::Common::append_assoc), unfolding(crate::specs::Words::or_dash))]
     pub fn push_number_or_dash(&mut self, n: Option<u16>, after: u8)
-        requires { length self.old + word_size ≤ line_size }
-        ensures text { self.new ≡ self.old ++ (or_dash (or_nothing n) ++ after ∷ []) }
-        ensures room { length self.new ≤ length self.old + word_size }
+        requires { length self.old.items + word_size ≤ line_size }
+        ensures text { self.new.items ≡ self.old.items ++ (or_dash (or_nothing n) ++ after ∷ []) }
+        ensures room { length self.new.items ≤ length self.old.items + word_size }
     {
         match n {
             // 65,535 is a dash too: `or_dash` says so of every number.
@@ -80,7 +85,7 @@ impl Line {
 
     // What the line says.
     pub fn as_bytes(&self) -> &[u8]
-        ensures text { result.now ≡ self.now }
+        ensures text { result.now ≡ self.now.items }
         ensures fits { length result.now ≤ line_size }
     {
         self.bytes.as_slice()

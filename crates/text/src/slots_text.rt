@@ -11,6 +11,10 @@ pub const MOST: usize = 4;
 pub fn slot_count(text: &[u8]) -> Option<usize>
     ensures { result ≡ slots_in text.now }
 {
+    // Before the rest, so that a long text costs no more than a short one.
+    if MOST < text.len() {
+        return None;
+    }
     let digits = text.strip_suffix(b"\n")?;
     // No leading zero, and no sign, which `parse` would take.
     let Some(b'1'..=b'9') = digits.first() else {

@@ -21,4 +21,4 @@ dependents_of-list-requires c =
 pub returns : goal.returns
 returns c =
     covered-list _ _ _ (taken_of c.in_ok-count.ensures refl) (omega (arith, c.if-number-count.false))
-    (c.deref.ensures.0 ∙ c.dependents_of-list.ensures) c.list_answer.ensures
+    (c.as_slice.ensures.value ∙ c.dependents_of-list.ensures) c.list_answer.ensures

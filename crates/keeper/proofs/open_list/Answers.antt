@@ -16,4 +16,4 @@ open_slots-list-requires c = few-slots _ (answer-given _ _ c.in_ok-slot_count.en
 pub returns : goal.returns
 returns c =
     let fine = (answer-given _ _ c.in_ok-slot_count.ensures refl).0 in
-    opened-list _ _ fine (c.deref.ensures.0 ∙ c.open_slots-list.ensures) c.list_answer.ensures
+    opened-list _ _ fine (c.as_slice.ensures.value ∙ c.open_slots-list.ensures) c.list_answer.ensures

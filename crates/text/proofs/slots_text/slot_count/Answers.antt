@@ -1,7 +1,10 @@
 -- `text::slots_text::slot_count` meets its contract: each return is a case of reading the text. Assumes nothing.
 use Rattle.std.proofs.Common.{arith}
-use Rattle.text.proofs.SlotsTextLaws.{no-newline, stripped, first-byte, value-of, fault-of, no-digit, no-text, no-number, too-large, a-number}
+use Rattle.text.proofs.SlotsTextLaws.{too-long, no-newline, stripped, first-byte, value-of, fault-of, no-digit, no-text, no-number, too-large, a-number}
 use Rattle.text.proofs.slots_text.slot_count.Goals as goal
+
+pub returns-then-text-gt-MOST : goal.returns-then-text-gt-MOST
+returns-then-text-gt-MOST c = too-long _ (omega arith)
 
 pub returns-in_err-digits : goal.returns-in_err-digits
 returns-in_err-digits c =

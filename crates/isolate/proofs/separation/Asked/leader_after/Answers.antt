@@ -11,7 +11,7 @@ loop-q-preserved c =
     let b = c.args.b in
     let q = c.loop-q.q in
     let step : b * 8 + (q + 1) ≡ b * 8 + q + 1 = omega arith in
-    let count = rw c.deref.ensures.0 at c.marked-count.ensures ∙ c.column_of-column.ensures.each q c.loop-q-test.true in
+    let count = rw c.as_slice.ensures.value at c.marked-count.ensures ∙ c.column_of-column.ensures.each q c.loop-q-test.true in
     elim c.if-leader-count.branch [
       | then-leader-count w ↦
           rw (step, w.leader-is) (leads-taken _ _ _ _ _ c.loop-q.invariant count w.if-leader-count.true)
