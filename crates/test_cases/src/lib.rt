@@ -1,7 +1,8 @@
-// What test programs share: the questions in a file of cases, asking them, and saying what came of a question.
+// What test programs share: their files, the questions in them, asking these, and saying what came of a question.
 #![tactic(auto)]
 
 pub mod ask;
+pub mod files;
 pub mod parts;
 pub mod questions;
 pub mod say;

@@ -1,31 +1,12 @@
-// What test programs print of an answer. No contract can speak of it.
+// What test programs print of an answer. No contract can speak of it. That standard output can't be written is not told, and what comes later is
+// still tried.
 ghost use Rattle.std.specs.Prelude.{◌≡◌, IfOk};
 
 use checks::refusal::Refusal;
-use std::{fmt, io};
+use std::fmt;
 
 // What every byte of an output is before a call.
 pub const UNTOUCHED: u8 = 238;
-
-// Why there is no more to say of a call.
-#[derive(Drop)]
-pub enum Stop {
-    Refused(Refusal),
-    // Standard output can't be written.
-    Unwritten(io::Error),
-}
-
-impl From<Refusal> for Stop {
-    fn from(refusal: Refusal) -> Stop {
-        Stop::Refused(refusal)
-    }
-}
-
-impl From<io::Error> for Stop {
-    fn from(error: io::Error) -> Stop {
-        Stop::Unwritten(error)
-    }
-}
 
 // Bytes that are printed as two digits each.
 #[derive(Clone, Copy)]
@@ -40,28 +21,36 @@ impl fmt::Display for Hex<'_> {
     }
 }
 
-pub fn say_refused(rt: &impl Print, refusal: Refusal) -> io::Result<()> {
-    print!(rt; " {refusal}")
+// The bytes as they are.
+pub fn say(rt: &impl Print, text: &[u8]) {
+    let _ = rt.write_all(text);
+}
+
+// What a `format_args!` gives, or another value that is printed.
+pub fn say_text(rt: &impl Print, text: impl fmt::Display + Drop) {
+    let _ = rt.print(text);
+}
+
+pub fn say_refused(rt: &impl Print, refusal: Refusal) {
+    say_text(rt, format_args!(" {refusal}"));
 }
 
 // What a call comes to; a refusal is said, and comes to the default.
-pub fn unless_refused<T: Default + Drop>(rt: &impl Print, answer: Result<T, Stop>) -> io::Result<T>
-    ensures { IfOk answer (λ value. result ≡ Ok value) }
+pub fn unless_refused<T: Default + Drop>(rt: &impl Print, answer: Result<T, Refusal>) -> T
+    ensures { IfOk answer (λ value. result ≡ value) }
 {
     match answer {
-        Ok(value) => Ok(value),
-        Err(Stop::Refused(refusal)) => {
-            say_refused(rt, refusal)?;
-            Ok(T::default())
+        Ok(value) => value,
+        Err(refusal) => {
+            say_refused(rt, refusal);
+            T::default()
         }
-        Err(Stop::Unwritten(error)) => Err(error),
     }
 }
 
 // Says so where a byte of an output, the n-th or a later one, is not as it was.
-pub fn say_kept(rt: &impl Print, out: &[u8], n: usize) -> io::Result<()> {
+pub fn say_kept(rt: &impl Print, out: &[u8], n: usize) {
     if out.iter().skip(n).any(|byte| *byte != UNTOUCHED) {
-        print!(rt; " changed")?;
+        say(rt, b" changed");
     }
-    Ok(())
 }

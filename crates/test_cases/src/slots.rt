@@ -1,10 +1,12 @@
 // The slots of an end in a lent buffer: a copy of them for a call, and those that the call changed.
-ghost use Rattle.std.specs.Prelude.{◌≡◌};
+ghost use Rattle.std.specs.Prelude.{◌≡◌, ◌<◌};
 ghost use Rattle.test_cases.specs.Cases.{part_in, copied_in};
 
-use crate::say::Hex;
+use crate::say::{Hex, say, say_text};
 use records::layout::SLOT_SIZE;
-use std::io;
+
+// More slots than an end may have.
+const MANY_SLOTS: usize = 258;
 
 // The first n bytes of `s`; the empty part where it has fewer, and no `None`: `part_in` states it so.
 #[tactic(auto, unfolding(crate::specs::Cases::part_in))]
@@ -26,13 +28,23 @@ pub fn copied<'a>(old: &[u8], room: &'a mut [u8]) -> &'a mut [u8]
     copy
 }
 
-// Each slot of an end whose bytes are not as they were.
-pub fn say_slots(rt: &impl Print, end: &str, old: &[u8], new: &[u8]) -> io::Result<()> {
-    for (i, (old, new)) in old.chunks(SLOT_SIZE).zip(new.chunks(SLOT_SIZE)).enumerate() {
+// The bytes of the i-th slot, as far as `s` has them.
+fn slot_part(s: &[u8], i: usize) -> &[u8]
+    requires { i < 258 }
+{
+    let rest = s.get(SLOT_SIZE * i..).unwrap_or(&[]);
+    rest.get(..SLOT_SIZE).unwrap_or(rest)
+}
+
+// Each slot of an end whose bytes are not as they were, after that word. Where `copied` had no room, none is as it was.
+pub fn say_slots(rt: &impl Print, word: &[u8], old: &[u8], new: &[u8]) {
+    for i in 0..MANY_SLOTS {
+        let old = slot_part(old, i);
+        let new = slot_part(new, i);
         if old != new {
             let new = Hex(new);
-            print!(rt; " {end} {i} {new}")?;
+            say(rt, word);
+            say_text(rt, format_args!("{i} {new}"));
         }
     }
-    Ok(())
 }

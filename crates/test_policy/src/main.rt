@@ -7,12 +7,11 @@ use isolate::rounds::Isolated;
 use policy::search::BestRule;
 use records::layout::RULE_SIZE;
 use records::rule::rule_at;
-use std::io;
 use ternary::{KEY_SIZE, bits, patterns};
 use test_cases::ask::{UnknownCall, ask_each};
 use test_cases::parts::{byte, number, part, part_of};
 use test_cases::questions::Layout;
-use test_cases::say::{Hex, Stop, UNTOUCHED, say_kept, say_refused, unless_refused};
+use test_cases::say::{Hex, UNTOUCHED, say, say_kept, say_refused, say_text, unless_refused};
 use test_cases::slots::front;
 
 // A question's record: call, label's length, key's length, zero, then where the policy begins, how long it is, the rule number, the
@@ -75,56 +74,56 @@ impl<'a> Given<'a> {
 
 // Each of the following makes a call and says what it answers.
 
-fn ask_check(rt: &impl Print, policy: &[u8]) -> Result<(), Stop> {
+fn ask_check(rt: &impl Print, policy: &[u8]) -> Result<(), Refusal> {
     let n = policy::check(policy)?;
-    print!(rt; " rules {n}")?;
+    say_text(rt, format_args!(" rules {n}"));
     Ok(())
 }
 
-fn ask_best(rt: &impl Print, policy: &[u8], key: &[u8]) -> Result<(), Stop> {
+fn ask_best(rt: &impl Print, policy: &[u8], key: &[u8]) -> Result<(), Refusal> {
     match policy::best(policy, key)? {
-        Some(BestRule { number, action }) => print!(rt; " rule {number} action {action}")?,
-        None => print!(rt; " none")?,
+        Some(BestRule { number, action }) => {
+            say_text(rt, format_args!(" rule {number} action {action}"));
+        }
+        None => say(rt, b" none"),
     }
     Ok(())
 }
 
 // The record with the answer before it.
-fn ask_record(rt: &impl Print, policy: &[u8], number: usize) -> io::Result<()> {
+fn ask_record(rt: &impl Print, policy: &[u8], number: usize) {
     match policy::record::record_answer(policy, number) {
-        Ok(()) => print!(rt; " ")?,
-        Err(refusal) => say_refused(rt, refusal)?,
+        Ok(()) => say(rt, b" "),
+        Err(refusal) => say_refused(rt, refusal),
     }
-    let record = Hex(policy::record::rule_record(policy, number));
-    print!(rt; "{record}")
+    say_text(rt, Hex(policy::record::rule_record(policy, number)));
 }
 
 // Gives how many numbers the output has.
-fn say_cover(rt: &impl Print, answer: Result<usize, Refusal>) -> Result<usize, Stop> {
+fn say_cover(rt: &impl Print, answer: Result<usize, Refusal>) -> Result<usize, Refusal> {
     let n = answer?;
-    print!(rt; " covers")?;
+    say(rt, b" covers");
     Ok(n)
 }
 
 // The first n numbers of two bytes.
-fn say_list(rt: &impl Print, out: &[u8], n: usize) -> io::Result<()> {
+fn say_list(rt: &impl Print, out: &[u8], n: usize) {
     for two in out.chunks_exact(2).take(n) {
         let number = u16::from_be_bytes([two[0], two[1]]);
-        print!(rt; " {number}")?;
+        say_text(rt, format_args!(" {number}"));
     }
-    Ok(())
 }
 
 // The cover list in the first bytes of an output, whose other bytes must stay as they were.
-fn ask_cover(rt: &impl Print, policy: &[u8], number: usize, room: usize) -> io::Result<()> {
+fn ask_cover(rt: &impl Print, policy: &[u8], number: usize, room: usize) {
     let mut out = [UNTOUCHED; 4096];
     let answer = cover::cover(policy, number, front(&mut out, room));
-    let n = unless_refused(rt, say_cover(rt, answer))?;
-    say_list(rt, &out, n)?;
-    say_kept(rt, &out, n.saturating_mul(2))
+    let n = unless_refused(rt, say_cover(rt, answer));
+    say_list(rt, &out, n);
+    say_kept(rt, &out, n.saturating_mul(2));
 }
 
-fn ask_isolate(rt: &impl Print, policy: &[u8], key: &[u8], number: usize) -> Result<(), Stop> {
+fn ask_isolate(rt: &impl Print, policy: &[u8], key: &[u8], number: usize) -> Result<(), Refusal> {
     let Isolated {
         pattern,
         fixed,
@@ -132,27 +131,30 @@ fn ask_isolate(rt: &impl Print, policy: &[u8], key: &[u8], number: usize) -> Res
     } = isolate::isolate(policy, key, number)?;
     let value = Hex(&pattern.value);
     let mask = Hex(&pattern.mask);
-    print!(rt; " value {value} mask {mask} fixed {fixed} wildcards {wildcards}")?;
+    say_text(
+        rt,
+        format_args!(" value {value} mask {mask} fixed {fixed} wildcards {wildcards}"),
+    );
     Ok(())
 }
 
 // Whether rules a and b of a policy overlap.
-fn ask_overlap(rt: &impl Print, policy: &[u8], a: usize, b: usize) -> io::Result<()> {
+fn ask_overlap(rt: &impl Print, policy: &[u8], a: usize, b: usize) {
     let n = policy.len() / RULE_SIZE;
     if a >= n || b >= n {
-        return Ok(());
+        return;
     }
     if patterns::overlap(rule_at(policy, a).pattern, rule_at(policy, b).pattern) {
-        print!(rt; " overlap")
+        say(rt, b" overlap");
     } else {
-        print!(rt; " apart")
+        say(rt, b" apart");
     }
 }
 
 // Whether a rule of a policy takes the key, and how many of its bits are exact and how many are wildcards.
-fn ask_match(rt: &impl Print, policy: &[u8], key: &[u8], number: usize) -> io::Result<()> {
+fn ask_match(rt: &impl Print, policy: &[u8], key: &[u8], number: usize) {
     if number >= policy.len() / RULE_SIZE || key.len() != KEY_SIZE {
-        return Ok(());
+        return;
     }
     let its = rule_at(policy, number).pattern;
     let word = if patterns::matches(its, records::row::row_at(key, 0)) {
@@ -162,11 +164,14 @@ fn ask_match(rt: &impl Print, policy: &[u8], key: &[u8], number: usize) -> io::R
     };
     let exact = bits::exact_bits(its.mask);
     let wildcards = bits::wildcard_bits(its.mask);
-    print!(rt; " {word} exact {exact} wildcards {wildcards}")
+    say_text(
+        rt,
+        format_args!(" {word} exact {exact} wildcards {wildcards}"),
+    );
 }
 
 // Makes the call, and says what it answers.
-fn ask_call(rt: &impl Print, call: Call, given: Given) -> Result<(), Stop> {
+fn ask_call(rt: &impl Print, call: Call, given: Given) -> Result<(), Refusal> {
     let Given {
         policy,
         key,
@@ -176,27 +181,27 @@ fn ask_call(rt: &impl Print, call: Call, given: Given) -> Result<(), Stop> {
     match call {
         Call::Check => ask_check(rt, policy)?,
         Call::Best => ask_best(rt, policy, key)?,
-        Call::Record => ask_record(rt, policy, number)?,
-        Call::Cover => ask_cover(rt, policy, number, room)?,
+        Call::Record => ask_record(rt, policy, number),
+        Call::Cover => ask_cover(rt, policy, number, room),
         Call::Isolate => ask_isolate(rt, policy, key, number)?,
-        Call::Overlap => ask_overlap(rt, policy, number, room)?,
-        Call::Match => ask_match(rt, policy, key, number)?,
+        Call::Overlap => ask_overlap(rt, policy, number, room),
+        Call::Match => ask_match(rt, policy, key, number),
     }
     Ok(())
 }
 
 // One question: its label, and what comes of its call.
-fn ask(rt: &impl Print, policies: &[u8], question: &[u8]) -> io::Result<()> {
-    rt.write_all(LAYOUT.label(question))?;
+fn ask(rt: &impl Print, policies: &[u8], question: &[u8]) {
+    say(rt, LAYOUT.label(question));
     match Call::try_from(byte(question, 0)) {
-        Ok(call) => unless_refused(rt, ask_call(rt, call, Given::of(policies, question)))?,
-        Err(UnknownCall) => print!(rt; " unknown question")?,
+        Ok(call) => unless_refused(rt, ask_call(rt, call, Given::of(policies, question))),
+        Err(UnknownCall) => say(rt, b" unknown question"),
     }
-    print!(rt; "\n")
+    say(rt, b"\n");
 }
 
-fn main(rt: HostRuntime) -> io::Result<()> {
-    ask_each(&rt, "policies.bin", LAYOUT, |question, policies| {
-        ask(&rt, policies, question)
-    })
+fn main(rt: HostRuntime) {
+    ask_each(&rt, b"policies.bin", LAYOUT, |question, policies| {
+        ask(&rt, policies, question);
+    });
 }

@@ -6,11 +6,10 @@
 use checks::refusal::Refusal;
 use records::layout::{MOST_PACKETS, OUTCOME_SIZE};
 use run::Ran;
-use std::io;
 use test_cases::ask::ask_each;
 use test_cases::parts::{bytes_at, number, part, part_of};
 use test_cases::questions::Layout;
-use test_cases::say::{Hex, Stop, UNTOUCHED, say_kept, unless_refused};
+use test_cases::say::{Hex, UNTOUCHED, say, say_kept, say_text, unless_refused};
 use test_cases::slots::{copied, front, say_slots};
 use totals::Totals;
 
@@ -33,7 +32,7 @@ fn totals_at(s: &[u8]) -> Totals {
     }
 }
 
-fn say_totals(rt: &impl Print, totals: Totals) -> io::Result<()> {
+fn say_totals(rt: &impl Print, totals: Totals) {
     let Totals {
         packets,
         hits,
@@ -41,14 +40,17 @@ fn say_totals(rt: &impl Print, totals: Totals) -> io::Result<()> {
         none,
         evictions,
     } = totals;
-    print!(rt; " totals {packets} {hits} {misses} {none} {evictions}")
+    say_text(
+        rt,
+        format_args!(" totals {packets} {hits} {misses} {none} {evictions}"),
+    );
 }
 
 // Says what a run answers, and gives how many bytes of the output are its outcomes; those of more packets than a run has are none.
 // Beside `say_open` of test_ends: word, limit and size would be parameters, and nothing but the test would be shared.
-fn say_answer(rt: &impl Print, answer: Result<usize, Refusal>) -> Result<usize, Stop> {
+fn say_answer(rt: &impl Print, answer: Result<usize, Refusal>) -> Result<usize, Refusal> {
     let n = answer?;
-    print!(rt; " packets {n}")?;
+    say_text(rt, format_args!(" packets {n}"));
     if n <= MOST_PACKETS {
         Ok(OUTCOME_SIZE * n)
     } else {
@@ -58,7 +60,7 @@ fn say_answer(rt: &impl Print, answer: Result<usize, Refusal>) -> Result<usize, 
 
 // One question: its label, and what comes of its run in copies of its ends. The buffers are longer than any question needs; every byte of the
 // output but the outcomes must be as it was.
-fn ask(rt: &impl Print, question: &[u8], buffers: &[u8]) -> io::Result<()> {
+fn ask(rt: &impl Print, question: &[u8], buffers: &[u8]) {
     let mut table = [0; 10320];
     let mut keeper = [0; 10320];
     let mut out = [UNTOUCHED; 49164];
@@ -70,20 +72,20 @@ fn ask(rt: &impl Print, question: &[u8], buffers: &[u8]) -> io::Result<()> {
     let table = copied(old_table, &mut table);
     let keeper = copied(old_keeper, &mut keeper);
     let room = front(&mut out, number(question, 40));
-    rt.write_all(LAYOUT.label(question))?;
+    say(rt, LAYOUT.label(question));
     let Ran { answer, totals } = run::run(policy, trace, table, keeper, room, totals);
-    let n = unless_refused(rt, say_answer(rt, answer))?;
-    say_totals(rt, totals)?;
+    let n = unless_refused(rt, say_answer(rt, answer));
+    say_totals(rt, totals);
     let told = Hex(part(&out, 0, n));
-    print!(rt; " gives {told}")?;
-    say_kept(rt, &out, n)?;
-    say_slots(rt, "table", old_table, table)?;
-    say_slots(rt, "keeper", old_keeper, keeper)?;
-    print!(rt; "\n")
+    say_text(rt, format_args!(" gives {told}"));
+    say_kept(rt, &out, n);
+    say_slots(rt, b" table ", old_table, table);
+    say_slots(rt, b" keeper ", old_keeper, keeper);
+    say(rt, b"\n");
 }
 
-fn main(rt: HostRuntime) -> io::Result<()> {
-    ask_each(&rt, "buffers.bin", LAYOUT, |question, buffers| {
-        ask(&rt, question, buffers)
-    })
+fn main(rt: HostRuntime) {
+    ask_each(&rt, b"buffers.bin", LAYOUT, |question, buffers| {
+        ask(&rt, question, buffers);
+    });
 }

@@ -5,5 +5,5 @@ use Rattle.test_replay.proofs.ask.Goals as goal
 pub slice_bounds-out-end : goal.slice_bounds-out-end
 slice_bounds-out-end g c = (counts c.text-n.ensures).0
 
-pub slice_bounds-write_all-end : goal.slice_bounds-write_all-end
-slice_bounds-write_all-end g c = (counts c.text-n.ensures).1
+pub slice_bounds-say-end-2 : goal.slice_bounds-say-end-2
+slice_bounds-say-end-2 g c = (counts c.text-n.ensures).1
