@@ -14,7 +14,8 @@ pub enum Flaw {
     Stray(usize),
 }
 
-// The value bits of a record under its wildcards, as a flaw: of the pattern at `at`.
+// The value bits of a record under its wildcards, as a flaw: of the pattern at `at`. Inlined, so that a check of a policy keeps no place in memory.
+#[inline(always)]
 fn stray_flaw(r: &[u8], at: usize) -> Option<Flaw>
     requires { at + (key_size + key_size) ≤ length r.now }
     ensures { result ≡ flaw_of None (stray_byte_in key_size at (at + key_size) r.now) }

@@ -61,7 +61,7 @@ impl<'a> Asked<'a> {
     }
 
     // Those of the standing that position p does not separate, in order.
-    // A loop: `retain` takes only a test of any number, `separates` is one of a policy's rules; `collect` takes an allocator and gives a Result.
+    // A loop, since `separates` asks for a rule of the policy, and a list by value grows by `push`.
     pub(crate) fn left(&self, p: usize, standing: &Numbers) -> Numbers
         requires { (p < positions) × AreRules self.now standing.now.items }
         ensures { result.items ≡ keep (λ (e : ℕ). not (separates_for self.now p e)) standing.now.items }
