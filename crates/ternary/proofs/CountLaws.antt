@@ -21,7 +21,7 @@ unfolding digit all_below count_below ones ones_in
 ones-byte x h = eqb-true _ _ (all-at (λ x. eqb (count_below (λ q. eqb (bit_of x q) 1) 8) (ones x)) 256 refl x h)
 
 -- the ones of a row of w bytes, n positions, are the sum of its bytes' ones
-ones-row : (w n : ℕ) (row : List ℕ) → Bytes row → w * 8 ≡ n → sum_below (λ i. ones (get_or row i 0)) w ≡ exact_bits n row
+pub ones-row : (w n : ℕ) (row : List ℕ) → Bytes row → w * 8 ≡ n → sum_below (λ i. ones (get_or row i 0)) w ≡ exact_bits n row
 unfolding exact_bits exact_at
 ones-row w n row h e =
     sym (count-blocks _ _ w (λ i _. count_same _ _ 8 (λ q l. ap (λ (b : ℕ). eqb b 1) (bit_in row i q l)) ∙ ones-byte _ (h.byte i)))

@@ -110,11 +110,11 @@ module _ (w : ℕ) (v₁ m₁ v₂ m₂ : List ℕ) where
   together-byte i h = by_byte together i _ h (together_at i)
 
   -- two patterns overlap where no byte parts them
-  overlap-yes : (i : ℕ) → Passed (λ k. parted_in v₁ m₁ v₂ m₂ k ≡ 0) i → w ≤ i → true ≡ overlap (w * 8) v₁ m₁ v₂ m₂
+  pub overlap-yes : (i : ℕ) → Passed (λ k. parted_in v₁ m₁ v₂ m₂ k ≡ 0) i → w ≤ i → true ≡ overlap (w * 8) v₁ m₁ v₂ m₂
   unfolding overlap
   overlap-yes i is h = row-yes together w i (λ k l. together-byte k (omega (arith, is.at k l)) ∙ eq-eqb _ 0 (is.at k l)) h
 
-  overlap-no : (i : ℕ) → i < w → Bytes v₁ → Bytes v₂ → (parted_in v₁ m₁ v₂ m₂ i ≡ 0 → ⊥) → false ≡ overlap (w * 8) v₁ m₁ v₂ m₂
+  pub overlap-no : (i : ℕ) → i < w → Bytes v₁ → Bytes v₂ → (parted_in v₁ m₁ v₂ m₂ i ≡ 0 → ⊥) → false ≡ overlap (w * 8) v₁ m₁ v₂ m₂
   unfolding overlap
   overlap-no i l h₁ h₂ ne =
       let small = xor_lt 8 (get_or v₁ i 0) (get_or v₂ i 0) (h₁.byte i) (h₂.byte i) in
