@@ -3,6 +3,15 @@ use Rattle.std.proofs.Common.{arith}
 use Rattle.text.proofs.SlotsTextLaws.{too-long, no-newline, stripped, first-byte, value-of, fault-of, no-digit, no-text, no-number, too-large, a-number}
 use Rattle.text.proofs.slots_text.slot_count.Goals as goal
 
+-- a number is given
+pub returns : goal.returns
+returns c =
+    let digits = stripped c.args.text.now c.strip_suffix.ensures.cases c.in_ok-digits.was in
+    let utf8 = rw (value-of _ _ c.in_ok-ok.ensures.value) at c.from_utf8.ensures.cases in
+    let first = rw c.in-Some-49-to-57.is at (first-byte _ _ c.first.ensures.value) in
+    let number = value-of _ _ c.in_ok-n.ensures.value in
+    a-number _ _ digits _ utf8.0 c.parse.ensures.value.0 _ number (grind arith) (grind arith) (omega arith)
+
 pub returns-then-text-gt-MOST : goal.returns-then-text-gt-MOST
 returns-then-text-gt-MOST c = too-long _ (omega arith)
 
@@ -48,11 +57,3 @@ returns-then-n-gt-MOST_SLOTS c =
     let utf8 = rw (value-of _ _ c.in_ok-ok.ensures.value) at c.from_utf8.ensures.cases in
     let number = value-of _ _ c.in_ok-n.ensures.value in
     too-large _ _ digits _ utf8.0 c.parse.ensures.value.0 _ number (omega arith)
-
-pub returns : goal.returns
-returns c =
-    let digits = stripped c.args.text.now c.strip_suffix.ensures.cases c.in_ok-digits.was in
-    let utf8 = rw (value-of _ _ c.in_ok-ok.ensures.value) at c.from_utf8.ensures.cases in
-    let first = rw c.in-Some-49-to-57.is at (first-byte _ _ c.first.ensures.value) in
-    let number = value-of _ _ c.in_ok-n.ensures.value in
-    a-number _ _ digits _ utf8.0 c.parse.ensures.value.0 _ number (grind arith) (grind arith) (omega arith)
