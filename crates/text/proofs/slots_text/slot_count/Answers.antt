@@ -10,7 +10,7 @@ returns c =
     let utf8 = rw (value-of _ _ c.in_ok-ok.ensures.value) at c.from_utf8.ensures.cases in
     let first = rw c.in-Some-49-to-57.is at (first-byte _ _ c.first.ensures.value) in
     let number = value-of _ _ c.in_ok-n.ensures.value in
-    a-number _ _ digits _ utf8.0 c.parse.ensures.value.0 _ number (grind arith) (grind arith) (omega arith)
+    a-number _ _ digits _ utf8.0 c.parse.ensures.value.0 _ number (omega (arith, first)) (omega (arith, first)) (omega arith)
 
 pub returns-then-text-gt-MOST : goal.returns-then-text-gt-MOST
 returns-then-text-gt-MOST c = too-long _ (omega arith)
