@@ -12,7 +12,8 @@ use Rattle.std.proofs.Common.{Option, None, Some, Result, Ok, Err, Bor, slice_ge
 use Rattle.std.proofs.lemmas.Option.{unwrap_or-slice_get}
 use Rattle.std.specs.Result.{result_ok}
 use Rattle.std.specs.Option.{MatchOption, option_copied, unwrap_or}
-use Rattle.std.proofs.lemmas.Fmt.{length-decimal-le, parse-decimal, decimal_is_IsNumeral, decimal_injective, decimal-digits_value, first_decimal, IsAscii-decimal}
+use Rattle.std.proofs.lemmas.Fmt.{length-decimal-le, parse-decimal, decimal_is_IsNumeral}
+use Rattle.std.proofs.lemmas.Fmt.{decimal_injective, decimal-digits_value, first_decimal, IsAscii-decimal}
 use Rattle.std.proofs.lemmas.List.{append_cancel_right}
 use Rattle.std.proofs.lemmas.Bool.Decides.{Decides-eqb}
 use Rattle.std.proofs.lemmas.Slice.Eq.{bytes_eq-Decides, strip_suffix_is}

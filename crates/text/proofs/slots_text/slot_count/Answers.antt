@@ -1,6 +1,7 @@
 -- `text::slots_text::slot_count` meets its contract: each return is a case of reading the text. Assumes nothing.
 use Rattle.std.proofs.Common.{arith}
-use Rattle.text.proofs.SlotsTextLaws.{too-long, no-newline, stripped, first-byte, value-of, fault-of, no-digit, no-text, no-number, too-large, a-number}
+use Rattle.text.proofs.SlotsTextLaws.{too-long, no-newline, stripped, first-byte, value-of}
+use Rattle.text.proofs.SlotsTextLaws.{fault-of, no-digit, no-text, no-number, too-large, a-number}
 use Rattle.text.proofs.slots_text.slot_count.Goals as goal
 
 -- a number is given
