@@ -18,7 +18,7 @@ use totals::Totals;
 #[tactic(auto, using(std::proofs::Common::append_assoc, records::proofs::OutcomeLaws::told_number), unfolding(crate::specs::Printed::outcome_line))]
 pub(crate) fn outcome_line(bytes: &[u8]) -> Line
     requires { length bytes.now ≡ outcome_size }
-    ensures { result.items ≡ outcome_line (decode_outcome bytes.now) }
+    ensures { result ≡ outcome_line (decode_outcome bytes.now) }
 {
     let outcome = records::outcome::outcome_of(bytes);
     let mut line = Line::new();
@@ -33,7 +33,7 @@ pub(crate) fn outcome_line(bytes: &[u8]) -> Line
 // The last line of a run: packets, hits, misses, no rule, evictions.
 #[tactic(auto, using(std::proofs::Common::append_assoc), unfolding(crate::specs::Printed::totals_line))]
 pub fn totals_line(totals: Totals) -> Line
-    ensures { result.items ≡ totals_line (as_totals totals) }
+    ensures { result ≡ totals_line (as_totals totals) }
 {
     let mut line = Line::new();
     line.push_number(totals.packets, b' ');
@@ -47,7 +47,7 @@ pub fn totals_line(totals: Totals) -> Line
 // The one line of a refusal: `refused`, number, place. `Display` writes the same, but no contract of it says so, and `text_of_replay` needs it.
 #[tactic(auto, using(std::proofs::Common::append_assoc), unfolding(crate::specs::Printed::refusal_line))]
 pub fn refusal_line(refusal: Refusal) -> Line
-    ensures { result.items ≡ refusal_line (number_of refusal) (place_of refusal) }
+    ensures { result ≡ refusal_line (number_of refusal) (place_of refusal) }
 {
     let mut line = Line::new();
     line.push_text(b"refused ");

@@ -11,8 +11,8 @@ use text::Line;
 // Writes a line from `at` on, and gives where it ends; every other byte stays.
 pub fn put_line(line: Line, out: &mut [u8], at: usize) -> usize
     requires { at + line_size ≤ length out.old }
-    ensures output { out.new ≡ splice at line.items out.old }
-    ensures end { result ≡ at + length line.items }
+    ensures output { out.new ≡ splice at line out.old }
+    ensures end { result ≡ at + length line }
     ensures short { result ≤ at + line_size }
 {
     let text = line.as_bytes();

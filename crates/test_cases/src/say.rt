@@ -1,12 +1,42 @@
-// What test programs print of an answer. No contract can speak of it. That standard output can't be written is not told, and what comes later is
-// still tried.
+// What test programs print of an answer. No contract can speak of it. That standard output can't be written is told by `unless_refused` alone; where
+// the others can't write, what comes later is still tried.
 ghost use Rattle.std.specs.Prelude.{◌≡◌, IfOk};
 
 use checks::refusal::Refusal;
-use std::fmt;
+use std::{fmt, io};
 
 // What every byte of an output is before a call.
 pub const UNTOUCHED: u8 = 238;
+
+// Why there is no more to say of a call.
+#[derive(Drop)]
+pub enum Stop {
+    Refused(Refusal),
+    // Standard output can't be written.
+    Unwritten(io::Error),
+}
+
+impl From<Refusal> for Stop {
+    ghost use Rattle.std.specs.Prelude.{◌≡◌};
+    ghost use Rattle.test_cases.specs.declared.say.Stop.TheVariants.{Refused};
+
+    ghost from_gives = { λ refusal stop. stop ≡ Refused refusal };
+
+    fn from(refusal: Refusal) -> Stop {
+        Stop::Refused(refusal)
+    }
+}
+
+impl From<io::Error> for Stop {
+    ghost use Rattle.std.specs.Prelude.{◌≡◌};
+    ghost use Rattle.test_cases.specs.declared.say.Stop.TheVariants.{Unwritten};
+
+    ghost from_gives = { λ error stop. stop ≡ Unwritten error };
+
+    fn from(error: io::Error) -> Stop {
+        Stop::Unwritten(error)
+    }
+}
 
 // Bytes that are printed as two digits each.
 #[derive(Clone, Copy)]
@@ -35,8 +65,22 @@ pub fn say_refused(rt: &impl Print, refusal: Refusal) {
     say_text(rt, format_args!(" {refusal}"));
 }
 
-// What a call comes to; a refusal is said, and comes to the default.
-pub fn unless_refused<T: Default + Drop>(rt: &impl Print, answer: Result<T, Refusal>) -> T
+// What a call comes to; a refusal is said, and comes to the default. That it can't be said, or that the call stopped for that, is told.
+pub fn unless_refused<T: Default + Drop>(rt: &impl Print, answer: Result<T, Stop>) -> io::Result<T>
+    ensures { IfOk answer (λ value. result ≡ Ok value) }
+{
+    match answer {
+        Ok(value) => Ok(value),
+        Err(Stop::Refused(refusal)) => {
+            print!(rt; " {refusal}")?;
+            Ok(T::default())
+        }
+        Err(Stop::Unwritten(error)) => Err(error),
+    }
+}
+
+// The same, the value itself; that a refusal can't be said is not told.
+pub fn value_unless_refused<T: Default + Drop>(rt: &impl Print, answer: Result<T, Refusal>) -> T
     ensures { IfOk answer (λ value. result ≡ value) }
 {
     match answer {

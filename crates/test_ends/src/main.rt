@@ -8,10 +8,10 @@ use records::layout::{MOST_SLOTS, REPORT_SIZE, WRITE_SIZE};
 use records::outcome::{Outcome, number_or_nothing};
 use show::Source;
 use table::Hit;
-use test_cases::ask::{UnknownCall, ask_each};
+use test_cases::ask::{UnknownCall, ask_each_in_rooms};
 use test_cases::parts::{byte, number, part, part_of};
 use test_cases::questions::Layout;
-use test_cases::say::{Hex, UNTOUCHED, say, say_kept, say_text, unless_refused};
+use test_cases::say::{Hex, UNTOUCHED, say, say_kept, say_text, value_unless_refused};
 use test_cases::slots::{copied, front, say_slots};
 
 // A question's record: call, label's length, zero, zero, then where each part begins and how long it is (policy; key or message; table or
@@ -120,7 +120,7 @@ fn say_given(rt: &impl Print, s: &[u8]) {
 }
 
 fn ask_show(rt: &impl Print, policy: &[u8], key: &[u8], table: &[u8]) {
-    unless_refused(rt, say_show(rt, show::show_answer(policy, key, table)));
+    value_unless_refused(rt, say_show(rt, show::show_answer(policy, key, table)));
     say_given(rt, show::show(policy, key, table));
 }
 
@@ -157,7 +157,7 @@ fn ask(rt: &impl Print, question: &[u8], buffers: &[u8]) {
     let room = front(&mut out, number(question, 28));
     say(rt, LAYOUT.label(question));
     let n = match Call::try_from(byte(question, 0)) {
-        Ok(call) => unless_refused(rt, ask_call(rt, call, policy, given, new, room)),
+        Ok(call) => value_unless_refused(rt, ask_call(rt, call, policy, given, new, room)),
         Err(UnknownCall) => 0,
     };
     say_slots(rt, b" slot ", old, new);
@@ -167,7 +167,7 @@ fn ask(rt: &impl Print, question: &[u8], buffers: &[u8]) {
 }
 
 fn main(rt: HostRuntime) {
-    ask_each(&rt, b"buffers.bin", LAYOUT, |question, buffers| {
+    ask_each_in_rooms(&rt, b"buffers.bin", LAYOUT, |question, buffers| {
         ask(&rt, question, buffers);
     });
 }

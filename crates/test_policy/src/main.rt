@@ -8,10 +8,10 @@ use policy::search::BestRule;
 use records::layout::RULE_SIZE;
 use records::rule::rule_at;
 use ternary::{KEY_SIZE, bits, patterns};
-use test_cases::ask::{UnknownCall, ask_each};
+use test_cases::ask::{UnknownCall, ask_each_in_rooms};
 use test_cases::parts::{byte, number, part, part_of};
 use test_cases::questions::Layout;
-use test_cases::say::{Hex, UNTOUCHED, say, say_kept, say_refused, say_text, unless_refused};
+use test_cases::say::{Hex, UNTOUCHED, say, say_kept, say_refused, say_text, value_unless_refused};
 use test_cases::slots::front;
 
 // A question's record: call, label's length, key's length, zero, then where the policy begins, how long it is, the rule number, the
@@ -118,7 +118,7 @@ fn say_list(rt: &impl Print, out: &[u8], n: usize) {
 fn ask_cover(rt: &impl Print, policy: &[u8], number: usize, room: usize) {
     let mut out = [UNTOUCHED; 4096];
     let answer = cover::cover(policy, number, front(&mut out, room));
-    let n = unless_refused(rt, say_cover(rt, answer));
+    let n = value_unless_refused(rt, say_cover(rt, answer));
     say_list(rt, &out, n);
     say_kept(rt, &out, n.saturating_mul(2));
 }
@@ -194,14 +194,14 @@ fn ask_call(rt: &impl Print, call: Call, given: Given) -> Result<(), Refusal> {
 fn ask(rt: &impl Print, policies: &[u8], question: &[u8]) {
     say(rt, LAYOUT.label(question));
     match Call::try_from(byte(question, 0)) {
-        Ok(call) => unless_refused(rt, ask_call(rt, call, Given::of(policies, question))),
+        Ok(call) => value_unless_refused(rt, ask_call(rt, call, Given::of(policies, question))),
         Err(UnknownCall) => say(rt, b" unknown question"),
     }
     say(rt, b"\n");
 }
 
 fn main(rt: HostRuntime) {
-    ask_each(&rt, b"policies.bin", LAYOUT, |question, policies| {
+    ask_each_in_rooms(&rt, b"policies.bin", LAYOUT, |question, policies| {
         ask(&rt, policies, question);
     });
 }

@@ -2,7 +2,7 @@
 // tests/data/replay_cases.py says how the two files are laid out, and makes them.
 #![tactic(auto)]
 
-use test_cases::ask::ask_each;
+use test_cases::ask::ask_each_in_rooms;
 use test_cases::parts::part_of;
 use test_cases::questions::Layout;
 use test_cases::say::{UNTOUCHED, say};
@@ -26,7 +26,7 @@ fn ask(rt: &impl Print, question: &[u8], parts: &[u8]) {
 }
 
 fn main(rt: HostRuntime) {
-    ask_each(&rt, b"parts.bin", LAYOUT, |question, parts| {
+    ask_each_in_rooms(&rt, b"parts.bin", LAYOUT, |question, parts| {
         ask(&rt, question, parts);
     });
 }

@@ -6,10 +6,10 @@
 use checks::refusal::Refusal;
 use records::layout::{MOST_PACKETS, OUTCOME_SIZE};
 use run::Ran;
-use test_cases::ask::ask_each;
+use test_cases::ask::ask_each_in_rooms;
 use test_cases::parts::{bytes_at, number, part, part_of};
 use test_cases::questions::Layout;
-use test_cases::say::{Hex, UNTOUCHED, say, say_kept, say_text, unless_refused};
+use test_cases::say::{Hex, UNTOUCHED, say, say_kept, say_text, value_unless_refused};
 use test_cases::slots::{copied, front, say_slots};
 use totals::Totals;
 
@@ -74,7 +74,7 @@ fn ask(rt: &impl Print, question: &[u8], buffers: &[u8]) {
     let room = front(&mut out, number(question, 40));
     say(rt, LAYOUT.label(question));
     let Ran { answer, totals } = run::run(policy, trace, table, keeper, room, totals);
-    let n = unless_refused(rt, say_answer(rt, answer));
+    let n = value_unless_refused(rt, say_answer(rt, answer));
     say_totals(rt, totals);
     let told = Hex(part(&out, 0, n));
     say_text(rt, format_args!(" gives {told}"));
@@ -85,7 +85,7 @@ fn ask(rt: &impl Print, question: &[u8], buffers: &[u8]) {
 }
 
 fn main(rt: HostRuntime) {
-    ask_each(&rt, b"buffers.bin", LAYOUT, |question, buffers| {
+    ask_each_in_rooms(&rt, b"buffers.bin", LAYOUT, |question, buffers| {
         ask(&rt, question, buffers);
     });
 }

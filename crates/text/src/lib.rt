@@ -20,37 +20,42 @@ const MOST_DIGITS: usize = 20;
 // Five words, each with a space or a newline after it.
 pub const LINE_SIZE: usize = 5 * (MOST_DIGITS + 1);
 
-// A line that the program prints. A clause sees its bytes.
+// A line that the program prints. A clause sees its bytes: the places past them hold 0, so lines that say the same are equal.
 #[derive(Clone, Copy)]
 pub struct Line {
     bytes: ListOf<u8, LINE_SIZE>,
 }
 
 impl Model for Line {
-    ghost use Rattle.std.specs.Prelude.{ℕ};
-    ghost use Rattle.lists.specs.ListOf.{ListOf as Items};
+    ghost use Rattle.std.specs.Prelude.{◌≡◌, ◌-◌, ℕ, List, length, replicate};
+    ghost use Rattle.std.proofs.Common.{sym};
+    ghost use Rattle.text.specs.Line.{line_size};
 
-    ghost Value = { Items ℕ };
+    ghost Value = { List ℕ };
 
-    ghost view = { λ line. line.bytes };
+    ghost view = { λ line. line.bytes.items };
 
-    ghost inverse = { λ bytes. record { bytes = bytes } };
+    ghost invariant = { λ line. line.bytes.spare ≡ replicate (line_size - length line.bytes.items) 0 };
+
+    ghost inverse = { λ text. record { bytes = record { items = text; spare = replicate (line_size - length text) 0 } } };
+
+    ghost inverse_ok = { λ line h i. record { bytes = record { items = line.bytes.items; spare = sym h i } } };
 }
 
 impl Line {
     // The line that says nothing.
     pub fn new() -> Self
-        ensures { result.items ≡ [] }
+        ensures { result ≡ [] }
     {
         Line {
-            bytes: ListOf::new(),
+            bytes: ListOf::over(0),
         }
     }
 
     // Puts a text after what the line says.
     pub fn push_text(&mut self, text: &[u8])
-        requires { length self.old.items + length text.now ≤ line_size }
-        ensures { self.new.items ≡ self.old.items ++ text.now }
+        requires { length self.old + length text.now ≤ line_size }
+        ensures { self.new ≡ self.old ++ text.now }
     {
         self.bytes.extend(text);
     }
@@ -58,9 +63,9 @@ impl Line {
     // Puts a number and a byte after what the line says.
     #[tactic(auto, using(crate::proofs::DecimalLaws::decimal_is_printed, std::proofs::Common::append_assoc))]
     pub fn push_number(&mut self, n: u64, after: u8)
-        requires { length self.old.items + word_size ≤ line_size }
-        ensures text { self.new.items ≡ self.old.items ++ (decimal n ++ after ∷ []) }
-        ensures room { length self.new.items ≤ length self.old.items + word_size }
+        requires { length self.old + word_size ≤ line_size }
+        ensures text { self.new ≡ self.old ++ (decimal n ++ after ∷ []) }
+        ensures room { length self.new ≤ length self.old + word_size }
     {
         self.push_text(Buffer::new().format(n).as_bytes());
         self.bytes.push(after);
@@ -69,9 +74,9 @@ impl Line {
     // The same of a rule or a slot; a dash where there is none.
     #[tactic(auto, using(std::proofs::Common::append_assoc), unfolding(crate::specs::Words::or_dash))]
     pub fn push_number_or_dash(&mut self, n: Option<u16>, after: u8)
-        requires { length self.old.items + word_size ≤ line_size }
-        ensures text { self.new.items ≡ self.old.items ++ (or_dash (or_nothing n) ++ after ∷ []) }
-        ensures room { length self.new.items ≤ length self.old.items + word_size }
+        requires { length self.old + word_size ≤ line_size }
+        ensures text { self.new ≡ self.old ++ (or_dash (or_nothing n) ++ after ∷ []) }
+        ensures room { length self.new ≤ length self.old + word_size }
     {
         match n {
             // 65,535 is a dash too: `or_dash` says so of every number.
@@ -85,7 +90,7 @@ impl Line {
 
     // What the line says.
     pub fn as_bytes(&self) -> &[u8]
-        ensures text { result.now ≡ self.now.items }
+        ensures text { result.now ≡ self.now }
         ensures fits { length result.now ≤ line_size }
     {
         self.bytes.as_slice()
