@@ -16,8 +16,8 @@ const PARTS_ROOM: usize = 262_144;
 // The same of cases.bin.
 const CASES_ROOM: usize = 65_536;
 
-// Asks each question of cases.bin, with the bytes of the file whose parts the questions name. Both are read whole; the first failure, of a file or of
-// an answer, is told, and nothing is asked after it. No contract can speak of files.
+// Asks each question of cases.bin, with the bytes of the file whose parts the questions name. Both are read whole; the first failure, of a file or
+// of an answer, is told, and nothing is asked after it. No contract can speak of files.
 pub fn ask_each<F: Fn(&[u8], &[u8]) -> io::Result<()>>(
     rt: &(impl Files + Alloc),
     parts_path: &str,
